@@ -3,7 +3,7 @@
 use crate::{help, outputs, refused, words};
 use clap::builder::ValueParser;
 use clap::error::ErrorKind;
-use clap::{ArgMatches, Error};
+use clap::{ArgMatches, Command, Error};
 use pst_cli::Status;
 use std::alloc::{AllocError, Global};
 use std::rt::Runtime;
@@ -14,6 +14,19 @@ fn is_unhelpful_tip(line: &str) -> bool {
     line.starts_with("  tip: to pass '")
 }
 
+/// Returns the least and the greatest number that the option `--name` of `subcommand` takes, if it takes a number.
+fn number_range_in_subcommand(subcommand: &Command<'_>, name: &str) -> Option<(u64, u64)> {
+    for argument in subcommand.get_arguments() {
+        if argument.get_long() == Some(name) {
+            return match argument.get_value_parser() {
+                ValueParser::Unsigned(least, most) => Some((least, most)),
+                _ => None,
+            };
+        }
+    }
+    None
+}
+
 /// Returns the least and the greatest number that the option `--name` of a subcommand takes, if it takes a
 /// number.
 fn number_range_of_option(
@@ -22,18 +35,10 @@ fn number_range_of_option(
     name: &str,
 ) -> Result<Option<(u64, u64)>, AllocError> {
     let command = words::clap_command_for_program(alloc)?;
-    let Some(subcommand) = command.find_subcommand(subcommand) else {
-        return Ok(None);
-    };
-    for argument in subcommand.get_arguments() {
-        if argument.get_long() == Some(name) {
-            return match argument.get_value_parser() {
-                ValueParser::Unsigned(least, most) => Ok(Some((least, most))),
-                _ => Ok(None),
-            };
-        }
+    match command.find_subcommand(subcommand) {
+        Some(subcommand) => Ok(number_range_in_subcommand(subcommand, name)),
+        None => Ok(None),
     }
-    Ok(None)
 }
 
 /// Returns the value and the option of an error's text, as `5` and `branches`, if the error is that a value

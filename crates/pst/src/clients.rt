@@ -1,7 +1,7 @@
 //! Clients that a campaign or a run calls in place of a known system.
 
 use crate::outputs::print_file_error_to_stderr;
-use crate::systems::SystemsError;
+use crate::systems::{SystemsError, system_in_box};
 use clap::ArgMatches;
 use pst_clients::{ClientFolder, Clients, Notes, open_clients, result_types_of_operations};
 use pst_typing::load;
@@ -31,16 +31,16 @@ fn operation_result_types_if_model_loads(
     }
 }
 
-/// Opens the clients of worker number `worker`, from 0, whose pipes are in `folder`. They answer calls of the model at
-/// the beginning of `input`.
-pub fn open_clients_for_worker<H: Wait + Files + Drop, R: Files + AllocGlobal>(
+/// Opens the clients of worker number `worker`, from 0, whose pipes are in `folder`, and puts them into a box. They
+/// answer calls of the model at the beginning of `input`.
+pub fn open_boxed_clients_for_worker<H: Wait + Files + Drop, R: Files + AllocGlobal>(
     handle: H,
     rt: &R,
     folder: ClientFolder<'_>,
     worker: u64,
     input: &[u8],
     notes: &SharedClientNotes,
-) -> Result<Clients<H, BufReader<R::File>, R::File>, SystemsError> {
+) -> Result<Box<Clients<H, BufReader<R::File>, R::File>>, SystemsError> {
     let (Ok(types), Ok(notes)) = (
         operation_result_types_if_model_loads(rt.alloc(), input),
         Arc::try_clone(notes),
@@ -48,7 +48,10 @@ pub fn open_clients_for_worker<H: Wait + Files + Drop, R: Files + AllocGlobal>(
         return Err(SystemsError::NoMemory);
     };
     match open_clients(handle, rt, folder, worker, types, notes) {
-        Ok(clients) => Ok(clients),
+        Ok(clients) => match system_in_box(rt.alloc(), clients) {
+            Ok(clients) => Ok(clients),
+            Err(AllocError) => Err(SystemsError::NoMemory),
+        },
         Err(error) if error.kind() == ErrorKind::OutOfMemory => Err(SystemsError::NoMemory),
         Err(error) => Err(SystemsError::NoPipes(error)),
     }

@@ -97,6 +97,32 @@ fn print_that_resets_fail_to_stderr<R: Eprint>(rt: &R, has_stop_file: bool) {
     let _ = eprintln!(rt; "pst: the reset failed {MANY} times in a row: is the server up?{advice}");
 }
 
+/// Returns that no client was asked a line.
+fn waits_of_clients_without_line(
+    alloc: Global,
+    count: usize,
+) -> Result<Vec<ClientWait>, AllocError> {
+    let mut clients = Vec::with_capacity(alloc, count)?;
+    for _ in 0..count {
+        clients.push(ClientWait::starting_at_line(None))?;
+    }
+    Ok(clients)
+}
+
+/// Counts a second for each client, and reports those that are silent for long.
+fn count_second_and_report_silent_clients<R: Eprint>(
+    rt: &R,
+    alloc: Global,
+    waits: &ClientWaits,
+    clients: &mut [ClientWait],
+) {
+    for place in 0..clients.len() {
+        if clients[place].count_second_and_check_if_report_is_due(waits.unanswered_line_id(place)) {
+            report_silent_client(rt, alloc, waits, place, clients[place].seconds);
+        }
+    }
+}
+
 /// Looks each second which clients have not answered, until it is over, and reports those that are silent for long.
 /// Also reports, once, that resets fail, if `MANY` failed in a row.
 fn report_client_trouble_until_over<R: Wait + Eprint>(
@@ -105,23 +131,14 @@ fn report_client_trouble_until_over<R: Wait + Eprint>(
     watched: &WatchedClients,
 ) -> Result<(), AllocError> {
     let waits = watched.notes.waits();
-    let mut clients = Vec::with_capacity(alloc, waits.len())?;
-    for _ in 0..waits.len() {
-        clients.push(ClientWait::starting_at_line(None))?;
-    }
+    let mut clients = waits_of_clients_without_line(alloc, waits.len())?;
     let mut is_said = false;
     for _ in rt.forever() {
         watched.parker.park_timeout(rt, Duration::from_secs(1));
         if watched.is_over.load(Ordering::SeqCst) {
             return Ok(());
         }
-        for place in 0..clients.len() {
-            if clients[place].count_second_and_check_if_report_is_due(waits.unanswered_line_id(
-                place,
-            )) {
-                report_silent_client(rt, alloc, waits, place, clients[place].seconds);
-            }
-        }
+        count_second_and_report_silent_clients(rt, alloc, waits, clients.as_mut_slice());
         if !is_said && watched.notes.failed_resets_since_last_success() >= MANY {
             is_said = true;
             print_that_resets_fail_to_stderr(rt, watched.has_stop_file);
@@ -138,30 +155,6 @@ pub struct ClientWatch {
 }
 
 impl ClientWatch {
-    /// Watches the clients of some notes, if there is a thread for it. `has_stop_file` says whether a file ends the
-    /// campaign.
-    pub fn start<R: Threads + Wait + Eprint + Copy + Drop + Send + 'static>(
-        rt: R,
-        alloc: Global,
-        notes: &Arc<Notes, Global>,
-        has_stop_file: bool,
-    ) -> Option<ClientWatch> {
-        let watched = WatchedClients {
-            notes: Arc::try_clone(notes).ok()?,
-            has_stop_file,
-            is_over: AtomicBool::new(false),
-            parker: Parker::new(),
-        };
-        let watched = Arc::new(alloc, watched).ok()?;
-        let own = Arc::try_clone(&watched).ok()?;
-        let thread = Builder::new()
-            .spawn(&rt, move || {
-                let _ = report_client_trouble_until_over(&rt, alloc, &own);
-            })
-            .ok()?;
-        Some(ClientWatch { watched, thread })
-    }
-
     /// Ends the thread, and waits for it.
     pub fn end<R: Threads + Wait>(self, rt: &R) {
         let ClientWatch { watched, thread } = self;
@@ -171,23 +164,41 @@ impl ClientWatch {
     }
 }
 
-/// Watches the clients that the arguments name, unless they name none or forbid messages.
+/// What the thread that watches the clients of some notes shares, if the arguments name clients and do not forbid
+/// messages.
+fn watched_clients_unless_quiet(
+    alloc: Global,
+    matches: &ArgMatches<'_>,
+    notes: &Arc<Notes, Global>,
+) -> Option<Arc<WatchedClients, Global>> {
+    let (_, words) = matches.subcommand()?;
+    match systems_from_arguments(matches)? {
+        (ChosenSystems::Clients(_), _) if !words.get_flag("quiet") => {
+            let watched = WatchedClients {
+                notes: Arc::try_clone(notes).ok()?,
+                has_stop_file: stop_file_name_from_arguments(matches).is_some(),
+                is_over: AtomicBool::new(false),
+                parker: Parker::new(),
+            };
+            Arc::new(alloc, watched).ok()
+        }
+        _ => None,
+    }
+}
+
+/// Watches the clients that the arguments name, if there is a thread for it, unless they name none or forbid messages.
 pub fn start_client_watch_unless_quiet<R: Threads + Wait + Eprint + Copy + Drop + Send + 'static>(
     rt: R,
     alloc: Global,
     matches: &ArgMatches<'_>,
     notes: &Arc<Notes, Global>,
 ) -> Option<ClientWatch> {
-    let (_, words) = matches.subcommand()?;
-    match systems_from_arguments(matches)? {
-        (ChosenSystems::Clients(_), _) if !words.get_flag("quiet") => {
-            ClientWatch::start(
-                rt,
-                alloc,
-                notes,
-                stop_file_name_from_arguments(matches).is_some(),
-            )
-        }
-        _ => None,
-    }
+    let watched = watched_clients_unless_quiet(alloc, matches, notes)?;
+    let own = Arc::try_clone(&watched).ok()?;
+    let thread = Builder::new()
+        .spawn(&rt, move || {
+            let _ = report_client_trouble_until_over(&rt, alloc, &own);
+        })
+        .ok()?;
+    Some(ClientWatch { watched, thread })
 }

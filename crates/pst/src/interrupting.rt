@@ -7,7 +7,7 @@ use std::alloc::{AllocError, Global};
 use std::rt::Files;
 use std::sync::atomic::{AtomicBool, Ordering};
 use std::sync::{Arc, Wait};
-use std::thread::{JoinHandle, Parker, Threads};
+use std::thread::{Builder, JoinHandle, Parker, Threads};
 use std::time::Duration;
 
 /// How many milliseconds pass between two looks.
@@ -15,7 +15,7 @@ const PAUSE: u64 = 100;
 
 /// What the thread that looks for the file shares with the one that ends it.
 #[derive(Drop)]
-pub struct StopFileState {
+struct StopFileState {
     name: String,
     has_appeared: Arc<AtomicBool>,
     is_over: AtomicBool,
@@ -23,7 +23,7 @@ pub struct StopFileState {
 }
 
 /// Looks for the file until it is there or the campaign is over.
-pub fn watch_for_stop_file<R: Wait + Files>(rt: &R, watched: &StopFileState) {
+fn watch_for_stop_file<R: Wait + Files>(rt: &R, watched: &StopFileState) {
     for _ in rt.forever() {
         if input::can_be_opened(rt, watched.name.as_str()) {
             watched.has_appeared.store(true, Ordering::SeqCst);
@@ -67,7 +67,7 @@ pub fn flag_whether_stop_file_is_there<R: Files>(
 }
 
 /// What the thread that looks for the file shares, if the arguments name a file.
-pub fn stop_file_watch_from_arguments(
+fn stop_file_state_from_arguments(
     alloc: Global,
     matches: &ArgMatches<'_>,
     has_appeared: &Arc<AtomicBool>,
@@ -82,11 +82,6 @@ pub fn stop_file_watch_from_arguments(
 }
 
 impl StopFileWatch {
-    /// The thread that looks for the file, which `main` starts: only there is the handle known that it takes along.
-    pub fn new(watched: Arc<StopFileState, Global>, thread: JoinHandle<()>) -> StopFileWatch {
-        StopFileWatch { watched, thread }
-    }
-
     /// Ends the thread, and waits for it.
     pub fn end<R: Threads + Wait>(self, rt: &R) {
         let StopFileWatch { watched, thread } = self;
@@ -94,6 +89,21 @@ impl StopFileWatch {
         watched.parker.unpark();
         thread.join(rt)
     }
+}
+
+/// Looks for the file that ends a campaign, if the arguments name one and there is a thread for it.
+pub fn start_stop_file_watch<R: Threads + Wait + Files + Copy + Drop + Send + 'static>(
+    rt: R,
+    alloc: Global,
+    matches: &ArgMatches<'_>,
+    has_appeared: &Option<Arc<AtomicBool>>,
+) -> Option<StopFileWatch> {
+    let watched = stop_file_state_from_arguments(alloc, matches, has_appeared.as_ref()?)?;
+    let own = Arc::try_clone(&watched).ok()?;
+    let thread = Builder::new()
+        .spawn(&rt, move || watch_for_stop_file(&rt, &own))
+        .ok()?;
+    Some(StopFileWatch { watched, thread })
 }
 
 /// When a campaign ends before all its trials have run, by the arguments.

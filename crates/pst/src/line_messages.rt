@@ -92,6 +92,53 @@ fn source_file_of_line(alloc: Global, line: &[u8]) -> Result<SourceFile<'static>
     })
 }
 
+/// Returns whether the tree at `span` begins with `byte`.
+fn is_first_byte(line: &[u8], span: Span, byte: u8) -> bool {
+    line.get(span.start) == Some(&byte)
+}
+
+/// Returns whether a line begins with a model.
+fn begins_with_model(line: &[u8]) -> bool {
+    match first_item(line) {
+        Some(head) => head == "model" || head == "model2",
+        None => false,
+    }
+}
+
+/// Returns what is wrong, and where, on a line that has two trees or more.
+fn place_and_fault_of_two_trees(line: &[u8], first: Span) -> (Span, &'static str) {
+    if is_first_byte(line, first, b'(') {
+        (
+            tree_at(line, first.end),
+            "a second item begins here: a line of a stream has one",
+        )
+    } else {
+        (first, NO_ITEM)
+    }
+}
+
+/// Returns what is wrong, and where, on a line of `count` trees unless it is one item.
+fn place_and_fault_unless_one_item(line: &[u8], count: usize) -> Option<(Span, &'static str)> {
+    let first = tree_at(line, 0);
+    if count == 0 {
+        return Some((first, "there is no item on this line"));
+    }
+    if is_first_byte(line, first, b'{') {
+        let what = "the `{` of an item as JSON has to be the first character of its line";
+        return Some((first, what));
+    }
+    if count > 1 {
+        return Some(place_and_fault_of_two_trees(line, first));
+    }
+    if begins_with_model(line) {
+        return Some((
+            first,
+            "this is a model: a line of a stream is a case or a run",
+        ));
+    }
+    None
+}
+
 /// Returns the fault of a line that is not one tree, or that is a model.
 fn fault_of_line_unless_one_item(
     alloc: Global,
@@ -100,27 +147,10 @@ fn fault_of_line_unless_one_item(
     let Ok(trees) = read(alloc, line) else {
         return first_error_in_last_file(alloc, &[source_file_of_line(alloc, line)?]);
     };
-    let first = tree_at(line, 0);
-    if trees.is_empty() {
-        return Ok(Some(line_fault_without_notes(alloc, first, "there is no item on this line")?));
+    match place_and_fault_unless_one_item(line, trees.len()) {
+        Some((span, what)) => Ok(Some(line_fault_without_notes(alloc, span, what)?)),
+        None => Ok(None),
     }
-    if line.get(first.start) == Some(&b'{') {
-        let what = "the `{` of an item as JSON has to be the first character of its line";
-        return Ok(Some(line_fault_without_notes(alloc, first, what)?));
-    }
-    if trees.len() > 1 {
-        if line.get(first.start) != Some(&b'(') {
-            return Ok(Some(line_fault_without_notes(alloc, first, NO_ITEM)?));
-        }
-        let second = tree_at(line, first.end);
-        let what = "a second item begins here: a line of a stream has one";
-        return Ok(Some(line_fault_without_notes(alloc, second, what)?));
-    }
-    if matches!(first_item(line), Some("model" | "model2")) {
-        let what = "this is a model: a line of a stream is a case or a run";
-        return Ok(Some(line_fault_without_notes(alloc, first, what)?));
-    }
-    Ok(None)
 }
 
 /// Returns a note on a file of one line as a note on line `number`.
@@ -133,6 +163,20 @@ fn note_with_line_renumbered(
     let place = format!(in alloc; " at {number}:")?;
     let note = note.replace(alloc, "line 1", line.as_str())?;
     note.as_str().replace(alloc, " at 1:", place.as_str())
+}
+
+/// Adds the notes of a fault to the message on the line `number`, a line each.
+fn add_notes_with_line_renumbered(
+    message: &mut String,
+    alloc: Global,
+    number: usize,
+    notes: &[String],
+) -> Result<(), AllocError> {
+    for note in notes {
+        let note = note_with_line_renumbered(alloc, number, note.as_str())?;
+        message.push_str(format!(in alloc; "  {note}\n")?.as_str())?;
+    }
+    Ok(())
 }
 
 impl<'a, R: Eprint + AllocGlobal> RefusedLineMessages<'a, R> {
@@ -202,10 +246,7 @@ impl<'a, R: Eprint + AllocGlobal> RefusedLineMessages<'a, R> {
         if !line.is_empty() {
             message.push_str(format!(in alloc; "    {text}\n    {marks}\n")?.as_str())?;
         }
-        for note in &notes {
-            let note = note_with_line_renumbered(alloc, number, note.as_str())?;
-            message.push_str(format!(in alloc; "  {note}\n")?.as_str())?;
-        }
+        add_notes_with_line_renumbered(&mut message, alloc, number, notes.as_slice())?;
         Ok(message)
     }
 }

@@ -4,7 +4,7 @@ use crate::words::arguments_select_json;
 use clap::ArgMatches;
 use pst_messages::{MessageScope, input_error_notices, input_warning_notices};
 use pst_rejudge::{Field, Name, add_number_field, add_text_field, json_object_line};
-use pst_sources::{Input, Notice, Notices, place_in};
+use pst_sources::{Input, Notice, NoticePlace, Notices, place_in};
 use pst_value::Text;
 use std::alloc::{AllocError, Global};
 
@@ -17,18 +17,13 @@ fn json_texts_of_strings(alloc: Global, strings: Vec<String>) -> Result<Vec<Text
     Ok(texts)
 }
 
-/// Returns the object of an error or a warning: its severity, its place, what is wrong, and notes.
-fn json_line_of_notice(
+/// Returns the fields of an error or a warning that say its severity and its place.
+fn severity_and_place_fields(
     alloc: Global,
-    input: &Input<'_>,
-    notice: Notice,
-) -> Result<Vec<u8>, AllocError> {
-    let place = place_in(alloc, input, &notice)?;
-    let severity = if notice.is_warning {
-        "warning"
-    } else {
-        "error"
-    };
+    is_warning: bool,
+    place: &NoticePlace<'_>,
+) -> Result<Vec<Field>, AllocError> {
+    let severity = if is_warning { "warning" } else { "error" };
     let mut fields = Vec::new(alloc);
     add_text_field(alloc, &mut fields, Name::Severity, severity)?;
     add_text_field(alloc, &mut fields, Name::File, place.file)?;
@@ -36,6 +31,15 @@ fn json_line_of_notice(
     add_number_field(&mut fields, Name::Column, place.column as u64)?;
     add_number_field(&mut fields, Name::Start, place.start as u64)?;
     add_number_field(&mut fields, Name::End, place.end as u64)?;
+    Ok(fields)
+}
+
+/// Adds the fields of an error or a warning that say what is wrong, and its notes.
+fn add_message_and_note_fields(
+    alloc: Global,
+    fields: &mut Vec<Field>,
+    notice: Notice,
+) -> Result<(), AllocError> {
     let Notice {
         span: _,
         is_warning: _,
@@ -48,6 +52,18 @@ fn json_line_of_notice(
     if !lines.is_empty() {
         fields.push(Field::Words(Name::Explanation, Text::from_string(lines)))?;
     }
+    Ok(())
+}
+
+/// Returns the object of an error or a warning: its severity, its place, what is wrong, and notes.
+fn json_line_of_notice(
+    alloc: Global,
+    input: &Input<'_>,
+    notice: Notice,
+) -> Result<Vec<u8>, AllocError> {
+    let place = place_in(alloc, input, &notice)?;
+    let mut fields = severity_and_place_fields(alloc, notice.is_warning, &place)?;
+    add_message_and_note_fields(alloc, &mut fields, notice)?;
     json_object_line(alloc, fields.as_slice())
 }
 

@@ -1,9 +1,11 @@
 //! Messages on misfits, on standard error: what a system answered for each reply `misfit`.
 
+use crate::systems::system_in_box;
 use clap::ArgMatches;
-use pst_driver::{Misfits, misfit_lines_text};
+use pst_driver::{MisfitRecorder, Misfits, misfit_lines_text};
+use pst_system::System;
 use pst_typing::load;
-use std::alloc::Global;
+use std::alloc::{AllocError, Global};
 use std::sync::Arc;
 
 /// The misfits of a system, which its box and the program share.
@@ -23,8 +25,17 @@ pub fn empty_misfits_if_run_is_not_quiet(
 }
 
 /// Returns another owner of the misfits, if there is a list of them.
-pub fn share_misfits(misfits: &Option<SharedMisfits>) -> Option<SharedMisfits> {
+fn share_misfits(misfits: &Option<SharedMisfits>) -> Option<SharedMisfits> {
     misfits.as_ref()?.clone().ok()
+}
+
+/// Returns a system in a box, which records its misfits if there is a list for them.
+pub fn boxed_misfit_recorder<S: System>(
+    alloc: Global,
+    system: S,
+    misfits: &Option<SharedMisfits>,
+) -> Result<Box<MisfitRecorder<S>>, AllocError> {
+    system_in_box(alloc, MisfitRecorder::new(system, share_misfits(misfits)))
 }
 
 /// Compares answers from now on with the model at the beginning of `input`, if it can be loaded.

@@ -6,13 +6,14 @@ use crate::campaigning::run_campaign_subcommand;
 use crate::driving::drive_items_on_system_or_refuse;
 use crate::judging::run_judge_subcommand;
 use crate::outputs::WriteErrorKeeper;
+use crate::preparing::PreparedInput;
 use crate::reading::output_file_from_arguments;
 use crate::result_file::{ResultFile, are_refused_items_in_output, open_to_write_without_emptying};
 use crate::systems::SystemsError;
 use crate::terminal::Terminals;
 use crate::{
-    clients, converting, explaining, generating, noticed, outputs, refused, streaming, summary,
-    warned,
+    clients, converting, explaining, generating, hangs, interrupting, noticed, outputs, refused,
+    streaming, summary, warned,
 };
 use clap::ArgMatches;
 use pst_campaign::EarlyStop;
@@ -249,7 +250,7 @@ fn run_subcommand_to_file_unless_refused<
 }
 
 /// Runs the subcommand with its output to the file that the arguments name, or to standard output.
-pub fn run_subcommand_to_chosen_output<
+fn run_subcommand_to_chosen_output<
     R: Runtime + AllocGlobal + Threads + Wait + Sync + Copy + Drop + Send + 'static,
 >(rt: &R, work: SubcommandContext<'_, '_>, input: Input<'_>, systems: SystemsResult) -> Status {
     if let Some(name) = output_file_from_arguments(work.matches) {
@@ -263,4 +264,41 @@ pub fn run_subcommand_to_chosen_output<
         io::writer(rt),
     );
     status_after_reporting_output_failure(rt, status, None, failure)
+}
+
+/// Runs the subcommand, while threads look for the file that ends a campaign and for clients that do not answer. Then
+/// standard error has the notes of the clients, unless the arguments forbid it.
+pub fn run_subcommand_while_watching<
+    R: Runtime + AllocGlobal + Threads + Wait + Sync + Copy + Drop + Send + 'static,
+>(
+    rt: R,
+    matches: &ArgMatches<'_>,
+    prepared: &PreparedInput<'_>,
+    terminals: Terminals,
+    systems: SystemsResult,
+) -> Status {
+    let alloc = rt.alloc();
+    let has_appeared = match interrupting::flag_whether_stop_file_is_there(&rt, alloc, matches) {
+        Ok(has_appeared) => has_appeared,
+        Err(_) => return refused::report_out_of_memory(&rt),
+    };
+    let stop_file = interrupting::start_stop_file_watch(rt, alloc, matches, &has_appeared);
+    let ending = interrupting::early_stop_from_arguments(matches, has_appeared);
+    let work = SubcommandContext {
+        matches,
+        files: prepared.files(),
+        misfits: prepared.misfits.as_deref(),
+        ending: &ending,
+        terminals,
+    };
+    let watch = hangs::start_client_watch_unless_quiet(rt, alloc, matches, &prepared.notes);
+    let status = run_subcommand_to_chosen_output(&rt, work, prepared.input(), systems);
+    if let Some(watch) = watch {
+        watch.end(&rt);
+    }
+    if let Some(stop_file) = stop_file {
+        stop_file.end(&rt);
+    }
+    clients::print_client_notes_unless_quiet(&rt, matches, &prepared.notes);
+    status
 }

@@ -43,6 +43,29 @@ fn client_arguments_or_placeholder<R: Files + AllocGlobal>(
     }
 }
 
+/// Adds the system `name` to a command, or the arguments of the clients that it names.
+fn add_system_name_or_client_arguments<R: Files + AllocGlobal>(
+    command: &mut String,
+    rt: &R,
+    name: &str,
+) -> Result<(), AllocError> {
+    match ClientFolder::from_word(name) {
+        Some(folder) => command.push_str(client_arguments_or_placeholder(rt, folder)?.as_str()),
+        None => command.push_str(name),
+    }
+}
+
+/// Adds the model's file to a command, or `MODEL` for a model that is not in one named file.
+fn add_model_file_or_placeholder(
+    command: &mut String,
+    words: &ArgMatches<'_>,
+) -> Result<(), AllocError> {
+    match words.get_strs("FILE") {
+        Some(&[model]) if model != STANDARD_INPUT => push_shell_word(command, model),
+        _ => command.push_str("MODEL"),
+    }
+}
+
 /// The beginning of a command that drives cases on the systems of a campaign: `pst run`, the system or the clients,
 /// `--repeats 20` and the model. The file of the cases comes after it. `MODEL` is in the place of a model that is not
 /// in one named file.
@@ -53,15 +76,9 @@ fn command_start_to_drive_failure_again<R: Files + AllocGlobal>(
 ) -> Result<String, AllocError> {
     let alloc = rt.alloc();
     let mut command = String::from_str(alloc, "pst run ")?;
-    match ClientFolder::from_word(name) {
-        Some(folder) => command.push_str(client_arguments_or_placeholder(rt, folder)?.as_str())?,
-        None => command.push_str(name)?,
-    }
+    add_system_name_or_client_arguments(&mut command, rt, name)?;
     command.push_str(" --repeats 20 ")?;
-    match words.get_strs("FILE") {
-        Some(&[model]) if model != STANDARD_INPUT => push_shell_word(&mut command, model)?,
-        _ => command.push_str("MODEL")?,
-    }
+    add_model_file_or_placeholder(&mut command, words)?;
     Ok(command)
 }
 

@@ -46,13 +46,31 @@ fn total_of_item_counts(counts: &ItemResultCounts) -> usize {
     total
 }
 
+/// Adds the number of items with each result that there is, as `: 2 explained, 1 unexplained`.
+fn add_counts_with_result_words(
+    line: &mut String,
+    alloc: Global,
+    counts: &ItemResultCounts,
+) -> Result<(), AllocError> {
+    let mut before = ": ";
+    for (count, word) in &counts_with_result_words(counts) {
+        if *count > 0 {
+            line.push_str(before)?;
+            add_grouped_number(line, alloc, *count)?;
+            line.push_str(" ")?;
+            line.push_str(word)?;
+            before = ", ";
+        }
+    }
+    Ok(())
+}
+
 /// Returns the line for two or more items, as `pst: 3 items: 2 explained, 1 unexplained`. `None` for fewer
 /// items.
 fn summary_line_for_two_or_more_items(
     alloc: Global,
     counts: &ItemResultCounts,
 ) -> Result<Option<String>, AllocError> {
-    let each = counts_with_result_words(counts);
     let total = total_of_item_counts(counts);
     if total < 2 {
         return Ok(None);
@@ -60,16 +78,7 @@ fn summary_line_for_two_or_more_items(
     let mut line = String::from_str(alloc, "pst: ")?;
     add_grouped_number(&mut line, alloc, total)?;
     line.push_str(" items")?;
-    let mut before = ": ";
-    for (count, word) in &each {
-        if *count > 0 {
-            line.push_str(before)?;
-            add_grouped_number(&mut line, alloc, *count)?;
-            line.push_str(" ")?;
-            line.push_str(word)?;
-            before = ", ";
-        }
-    }
+    add_counts_with_result_words(&mut line, alloc, counts)?;
     Ok(Some(line))
 }
 

@@ -8,7 +8,7 @@ use pst_cli::{Absence, KnownSystem, Status, refuse_text};
 use pst_clients::ClientFolder;
 use pst_sexpr::Sink;
 use pst_syntax_problems::NearestNameSoFar;
-use std::alloc::AllocError;
+use std::alloc::{AllocError, Global};
 use std::io;
 use std::rt::Files;
 
@@ -31,6 +31,14 @@ pub enum SystemsError {
     NoPipes(io::Error),
     /// An allocation failed.
     NoMemory,
+}
+
+/// Returns a system in a box.
+pub fn system_in_box<S: Drop>(alloc: Global, system: S) -> Result<Box<S>, AllocError> {
+    match Box::new(alloc, system) {
+        Ok(system) => Ok(system),
+        Err(_) => Err(AllocError),
+    }
 }
 
 /// Returns the systems with the name `name`, if there are some.
@@ -67,6 +75,18 @@ fn looks_like_command(name: &str) -> bool {
     name.contains(' ') || name.contains('/') || name.contains('.')
 }
 
+/// Returns a hint with the system's name that is nearest to `name`, if one is near.
+fn nearest_system_name_hint(alloc: Global, name: &str) -> Result<Option<String>, AllocError> {
+    let mut near = NearestNameSoFar::to(name);
+    for known in SYSTEMS {
+        near = near.or(alloc, known, name)?;
+    }
+    match near.hint() {
+        Some(hint) => Ok(Some(format!(in alloc; "{hint}")?)),
+        None => Ok(None),
+    }
+}
+
 /// Returns a hint on a name that no system has: what a file of that name needs, how a command is given, or the nearest
 /// name.
 fn unknown_system_hint<R: Files + AllocGlobal>(
@@ -86,14 +106,7 @@ fn unknown_system_hint<R: Files + AllocGlobal>(
         )?;
         return Ok(Some(hint));
     }
-    let mut near = NearestNameSoFar::to(name);
-    for known in SYSTEMS {
-        near = near.or(alloc, known, name)?;
-    }
-    match near.hint() {
-        Some(hint) => Ok(Some(format!(in alloc; "{hint}")?)),
-        None => Ok(None),
-    }
+    nearest_system_name_hint(alloc, name)
 }
 
 /// Returns the first of `names` that is no file but the name of a system.

@@ -65,6 +65,15 @@ fn add_time_left(
     line.push_str(" s left")
 }
 
+/// Adds a rate, as `, 512 a second`.
+fn add_rate(line: &mut String, alloc: Global, rate: DisplayedRate) -> Result<(), AllocError> {
+    let DisplayedRate { number, unit } = rate;
+    line.push_str(", ")?;
+    add_grouped_number(line, alloc, number as usize)?;
+    line.push_str(" ")?;
+    line.push_str(unit)
+}
+
 /// The line after some milliseconds, as `1,204 of 10,000 explained, 512 a second, 17 s left`. It leaves out what is not known.
 fn progress_line(
     alloc: Global,
@@ -74,7 +83,6 @@ fn progress_line(
 ) -> Result<String, AllocError> {
     let done = steps.done();
     let thousands = done.saturating_mul(1000);
-    let DisplayedRate { number, unit } = DisplayedRate::of(done, milliseconds);
     let mut line = String::new(alloc);
     add_grouped_number(&mut line, alloc, done as usize)?;
     if let Some(all) = steps.all() {
@@ -83,10 +91,7 @@ fn progress_line(
     }
     line.push_str(" ")?;
     line.push_str(word)?;
-    line.push_str(", ")?;
-    add_grouped_number(&mut line, alloc, number as usize)?;
-    line.push_str(" ")?;
-    line.push_str(unit)?;
+    add_rate(&mut line, alloc, DisplayedRate::of(done, milliseconds))?;
     if let Some(all) = steps.all() {
         add_time_left(
             &mut line,

@@ -111,15 +111,22 @@ fn clap_command_for_generate<'a>(alloc: Global) -> Result<Command<'a>, AllocErro
         .arg(quiet_option(alloc))
 }
 
+/// Adds a command, unless an allocation for it failed.
+fn add_subcommand<'a>(
+    command: Command<'a>,
+    subcommand: Result<Command<'a>, AllocError>,
+) -> Result<Command<'a>, AllocError> {
+    command.subcommand(subcommand?)
+}
+
 /// Adds the commands whose input is a model.
 fn add_model_subcommands<'a>(
     alloc: Global,
     command: Command<'a>,
 ) -> Result<Command<'a>, AllocError> {
-    command
-        .subcommand(clap_command_for_check(alloc)?)?
-        .subcommand(clap_command_for_list(alloc)?)?
-        .subcommand(clap_command_for_generate(alloc)?)
+    let command = add_subcommand(command, clap_command_for_check(alloc))?;
+    let command = add_subcommand(command, clap_command_for_list(alloc))?;
+    add_subcommand(command, clap_command_for_generate(alloc))
 }
 
 /// Adds the commands whose input is a model and items.
@@ -127,10 +134,9 @@ fn add_item_subcommands<'a>(
     alloc: Global,
     command: Command<'a>,
 ) -> Result<Command<'a>, AllocError> {
-    command
-        .subcommand(clap_command_for_judge(alloc)?)?
-        .subcommand(explaining::clap_command_for_explain(alloc)?)?
-        .subcommand(converting::clap_command_for_convert(alloc)?)
+    let command = add_subcommand(command, clap_command_for_judge(alloc))?;
+    let command = add_subcommand(command, explaining::clap_command_for_explain(alloc))?;
+    add_subcommand(command, converting::clap_command_for_convert(alloc))
 }
 
 /// `verdicts`, which prints what verdicts, reports, refusals and exit statuses mean.
@@ -145,9 +151,8 @@ fn add_system_subcommands<'a>(
     alloc: Global,
     command: Command<'a>,
 ) -> Result<Command<'a>, AllocError> {
-    command
-        .subcommand(clap_command_for_run(alloc)?)?
-        .subcommand(clap_command_for_campaign(alloc)?)
+    let command = add_subcommand(command, clap_command_for_run(alloc))?;
+    add_subcommand(command, clap_command_for_campaign(alloc))
 }
 
 /// The commands of the program.

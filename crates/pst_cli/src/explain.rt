@@ -57,7 +57,9 @@ fn append_explanation_or_graph_of_item(
         return Ok(text);
     }
     let explanation = explain_item(compiled, alloc, typed, run, judged, number, place)?;
-    form.append_explanation_unless_graph(text, alloc, &explanation)
+    let appended = form.append_explanation_unless_graph(text, alloc, &explanation);
+    drop(explanation);
+    appended
 }
 
 /// How many of the judged items are explained.

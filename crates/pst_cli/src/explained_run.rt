@@ -1,12 +1,14 @@
 //! Explains a driven run.
 ghost use Rattle.std.specs.Prelude.{◌≡◌, IfOk, IfSome};
+ghost use Rattle.pst_judge.specs.Judgement.{IsJudgement};
 ghost use Rattle.pst_runs.specs.Lawful.{IsLawful};
 
 use crate::compiled::compile_model_of_input;
 use crate::judge::is_explained_or_valid;
 use pst_case::{Case, CaseFaultKind, History, Run, Shaped, shape};
+use pst_compile::Compiled;
 use pst_explain::{explain_item, explanation_text_without_heading};
-use pst_judge::judge_one;
+use pst_judge::{Judged, judge_one};
 use pst_model::Typed;
 use std::alloc::{AllocError, Global};
 
@@ -42,6 +44,56 @@ pub(crate) fn run_of_case_and_history(
     }
 }
 
+/// Explains why no interleaving explains a judged run. Returns `None` if the run is explained.
+fn explanation_of_judged_run_unless_explained(
+    alloc: Global,
+    compiled: &Compiled,
+    run: &Run,
+    judged: &Judged,
+    width: usize,
+) -> Result<Option<Vec<u8>>, AllocError>
+    requires lawful { IsLawful compiled.now run.now }
+    requires judged { IsJudgement compiled.now run.now judged.now }
+{
+    if is_explained_or_valid(judged) {
+        return Ok(None);
+    }
+    let typed = compiled.typed();
+    let explanation = explain_item(compiled, alloc, typed, run, judged, 1, None)?;
+    let text = explanation_text_without_heading(alloc, &explanation, width);
+    drop(explanation);
+    Ok(Some(text?))
+}
+
+/// Judges a run of the model, and explains why no interleaving explains it. Returns `None` if the
+/// run is explained.
+fn explanation_of_lawful_run_unless_explained(
+    alloc: Global,
+    compiled: &Compiled,
+    run: &Run,
+    width: usize,
+) -> Result<Option<Vec<u8>>, AllocError>
+    requires { IsLawful compiled.now run.now }
+{
+    let judged = judge_one(compiled, alloc, run)?;
+    explanation_of_judged_run_unless_explained(alloc, compiled, run, &judged, width)
+}
+
+/// Explains why no interleaving explains the run of a case with its history. Returns `None` if the
+/// run is explained or is no run of the model.
+fn explanation_of_case_and_history_unless_explained(
+    alloc: Global,
+    compiled: &Compiled,
+    case: Case,
+    history: History,
+    width: usize,
+) -> Result<Option<Vec<u8>>, AllocError> {
+    match run_of_case_and_history(alloc, compiled.typed(), case, history)? {
+        Some(run) => explanation_of_lawful_run_unless_explained(alloc, compiled, &run, width),
+        None => Ok(None),
+    }
+}
+
 /// Explains why no interleaving explains a recorded run on the model at the start of the input, in lines of at most
 /// `width` bytes. Returns `None` if the run is explained or is no run of the model, or the input is refused.
 pub fn explanation_of_run_unless_explained(
@@ -54,15 +106,5 @@ pub fn explanation_of_run_unless_explained(
     let Ok(file) = compile_model_of_input(alloc, input)? else {
         return Ok(None);
     };
-    let compiled = &file.compiled;
-    let typed = compiled.typed();
-    let Some(run) = run_of_case_and_history(alloc, typed, case, history)? else {
-        return Ok(None);
-    };
-    let judged = judge_one(compiled, alloc, &run)?;
-    if is_explained_or_valid(&judged) {
-        return Ok(None);
-    }
-    let explanation = explain_item(compiled, alloc, typed, &run, &judged, 1, None)?;
-    Ok(Some(explanation_text_without_heading(alloc, &explanation, width)?))
+    explanation_of_case_and_history_unless_explained(alloc, &file.compiled, case, history, width)
 }

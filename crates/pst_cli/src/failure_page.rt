@@ -106,7 +106,24 @@ fn judged_run_explanation_json<'a>(
 {
     let typed = compiled.typed();
     let explanation = explain_item(compiled, alloc, typed, run, judged, number, None)?;
-    trial_json(alloc, &explanation, trial)
+    let json = trial_json(alloc, &explanation, trial);
+    drop(explanation);
+    json
+}
+
+/// Judges a run of the model, and explains it as JSON. `number` is its number on the page, and
+/// `trial` that of its trial.
+fn run_explanation_json(
+    alloc: Global,
+    compiled: &Compiled,
+    run: &Run,
+    number: usize,
+    trial: usize,
+) -> Result<Vec<u8>, AllocError>
+    requires { IsLawful compiled.now run.now }
+{
+    let judged = judge_one(compiled, alloc, run)?;
+    judged_run_explanation_json(alloc, compiled, run, &judged, number, trial)
 }
 
 /// The explanation of a failure as JSON. `number` is its number on the page. `None`: it is no run of the model.
@@ -124,8 +141,7 @@ fn trial_failure_explanation_json(
     let Some(run) = run_of_case_and_history(alloc, compiled.typed(), case, history)? else {
         return Ok(None);
     };
-    let judged = judge_one(compiled, alloc, &run)?;
-    Ok(Some(judged_run_explanation_json(alloc, compiled, &run, &judged, number, trial)?))
+    Ok(Some(run_explanation_json(alloc, compiled, &run, number, trial)?))
 }
 
 /// Adds the explanations of failures, and the end of their document.

@@ -85,6 +85,24 @@ fn shortest_failure_below(
     shorter
 }
 
+/// The members of the report of a campaign as a JSON object.
+fn campaign_report_fields(
+    alloc: Global,
+    plan: &Plan,
+    closed: &Closed<Record>,
+) -> Result<Vec<Field>, AllocError>
+    requires { AreOf plan.now 0 closed.now }
+{
+    let mut fields = first_campaign_report_fields(
+        alloc,
+        plan,
+        closed,
+        status_of_early_ended_campaign(closed),
+    )?;
+    add_losses_and_least_failure(alloc, &mut fields, plan, closed.entries())?;
+    Ok(fields)
+}
+
 impl CampaignNotes {
     /// The notes before the first trial.
     pub fn new() -> CampaignNotes {
@@ -115,23 +133,39 @@ impl CampaignNotes {
         requires { AreOf plan.now 0 closed.now }
     {
         let entries = closed.entries();
-        let mut fields = first_campaign_report_fields(
-            alloc,
-            plan,
-            closed,
-            status_of_early_ended_campaign(closed),
-        )?;
-        add_losses_and_least_failure(alloc, &mut fields, plan, entries)?;
-        self.report = Some(fields);
+        self.report = Some(campaign_report_fields(alloc, plan, closed)?);
+        self.keep_failures_if_wanted(alloc, plan, entries)?;
+        if let Some((number, _)) = first_trial_with_generation_fault(entries) {
+            self.first_genfault = Some(number);
+        }
+        self.add_first_failure(alloc, plan, entries)
+    }
+
+    /// Keeps the failures for a page and for files, if they are wanted.
+    fn keep_failures_if_wanted(
+        &mut self,
+        alloc: Global,
+        plan: &Plan,
+        entries: &[Entry<Record>],
+    ) -> Result<(), AllocError> {
         if self.for_page {
             self.explained = Some(CampaignFailures::from_entries(alloc, plan, entries)?);
         }
         if self.for_files {
             self.saved = Some(distinct_failures(alloc, entries)?);
         }
-        if let Some((number, _)) = first_trial_with_generation_fault(entries) {
-            self.first_genfault = Some(number);
-        }
+        Ok(())
+    }
+
+    /// Notes what the first failure was shrunk to, and the first of those with the fewest commands.
+    fn add_first_failure(
+        &mut self,
+        alloc: Global,
+        plan: &Plan,
+        entries: &[Entry<Record>],
+    ) -> Result<(), AllocError>
+        requires { AreOf plan.now 0 entries.now }
+    {
         if let Some((_, shrunk)) = first_failed_trial(plan, entries) {
             let last = &shrunk.last;
             let case = last.case.copy(alloc)?;

@@ -48,6 +48,24 @@ fn broken_reply_meaning(reply: &Reply) -> &'static str {
     }
 }
 
+/// Returns a sentence on the reply of a command and the expected type, if it is known.
+fn reply_sentence(
+    alloc: Global,
+    model: &Source,
+    call: &Call<'_>,
+    reply: &Reply,
+    wanted: Option<&Ty>,
+) -> Result<Vec<u8>, AllocError> {
+    let mut text = call.text(alloc, model)?;
+    add_str(&mut text, " ")?;
+    add_str(&mut text, broken_reply_meaning(reply))?;
+    if let Some(wanted) = wanted {
+        add_str(&mut text, " a value of type ")?;
+        add_tree_spelling(&mut text, &ty_form(alloc, wanted)?)?;
+    }
+    Ok(text)
+}
+
 /// Returns a sentence on the reply of a command and the expected type. `None` if there is no reply.
 pub fn broken_reply_sentence(
     alloc: Global,
@@ -60,13 +78,7 @@ pub fn broken_reply_sentence(
     let Some(reply) = call.reply else {
         return Ok(None);
     };
-    let mut text = call.text(alloc, model)?;
-    add_str(&mut text, " ")?;
-    add_str(&mut text, broken_reply_meaning(reply))?;
-    if let Some(wanted) = broken.wanted {
-        add_str(&mut text, " a value of type ")?;
-        add_tree_spelling(&mut text, &ty_form(alloc, wanted)?)?;
-    }
+    let text = reply_sentence(alloc, model, call, reply, broken.wanted)?;
     Ok(Some(text))
 }
 

@@ -10,6 +10,7 @@ use pst_scene::{
     add_value_spelling, copy_explanation_text, expression_text, false_postcondition_text,
     join_explanation_parts, operation_of_call, value_text,
 };
+use pst_value::Value;
 use std::alloc::{AllocError, Global};
 
 /// The place and the spelling of a command, and what it answered.
@@ -59,6 +60,19 @@ fn allowed_values_text(
     Ok(text)
 }
 
+/// Adds a cell for an allowed value.
+fn add_allowed_value_cell(
+    row: &mut Vec<Cell>,
+    alloc: Global,
+    model: &Source,
+    value: &Value,
+) -> Result<(), AllocError> {
+    let value = value_text(alloc, model, value)?;
+    let text = join_explanation_parts(alloc, &[b"allowed: ", value.as_slice()])?;
+    row.push(Cell::styled(Style::Right, text))?;
+    Ok(())
+}
+
 /// Adds a cell for each allowed value, and one of `..` if there may be others.
 fn add_cell_for_each_allowed_value(
     row: &mut Vec<Cell>,
@@ -67,9 +81,7 @@ fn add_cell_for_each_allowed_value(
     found: &AllowedValues,
 ) -> Result<(), AllocError> {
     for value in found.values.as_slice() {
-        let value = value_text(alloc, model, value)?;
-        let text = join_explanation_parts(alloc, &[b"allowed: ", value.as_slice()])?;
-        row.push(Cell::styled(Style::Right, text))?;
+        add_allowed_value_cell(row, alloc, model, value)?;
     }
     if !found.all {
         row.push(Cell::styled(Style::Right, copy_explanation_text(alloc, "..")?))?;
@@ -150,6 +162,39 @@ fn core_introduction_sentence(count: usize) -> &'static str {
     }
 }
 
+/// Adds the answers of a core, and what the model allows in the place of each.
+fn add_core_answers_text(
+    page: &mut Page,
+    alloc: Global,
+    scene: &Scene<'_>,
+    core: &Core<'_>,
+) -> Result<(), AllocError> {
+    let mut table = Table::new(alloc)?;
+    let line = page.width.saturating_sub(6);
+    for answer in &core.answers {
+        table.add_row(core_answer_row(alloc, scene, answer, line)?)?;
+    }
+    table.write_or_stack(page, alloc, 4)
+}
+
+/// Adds the sentences between the answers of a core and the run.
+fn add_sentences_before_marked_run(
+    page: &mut Page,
+    alloc: Global,
+    core: &Core<'_>,
+) -> Result<(), AllocError> {
+    if core.is_cut {
+        page.add_sentence(alloc, 2, CUT.as_bytes())?;
+    }
+    if core.answers.is_empty() {
+        return page.add_sentence(alloc, 2, b"The run:");
+    }
+    if core.is_in_prefix() {
+        page.add_sentence(alloc, 2, b"The prefix alone shows it: no race is needed.")?;
+    }
+    page.add_sentence(alloc, 2, b"The run, with * before what is reported above:")
+}
+
 /// Adds a core, and the run with the commands of the core marked.
 fn add_core_and_marked_run_text(
     page: &mut Page,
@@ -162,23 +207,8 @@ fn add_core_and_marked_run_text(
         2,
         core_introduction_sentence(core.answers.len()).as_bytes(),
     )?;
-    let mut table = Table::new(alloc)?;
-    let line = page.width.saturating_sub(6);
-    for answer in &core.answers {
-        table.add_row(core_answer_row(alloc, scene, answer, line)?)?;
-    }
-    table.write_or_stack(page, alloc, 4)?;
-    if core.is_cut {
-        page.add_sentence(alloc, 2, CUT.as_bytes())?;
-    }
-    if core.answers.is_empty() {
-        page.add_sentence(alloc, 2, b"The run:")?;
-    } else {
-        if core.is_in_prefix() {
-            page.add_sentence(alloc, 2, b"The prefix alone shows it: no race is needed.")?;
-        }
-        page.add_sentence(alloc, 2, b"The run, with * before what is reported above:")?;
-    }
+    add_core_answers_text(page, alloc, scene, core)?;
+    add_sentences_before_marked_run(page, alloc, core)?;
     let numbers = core.command_numbers(alloc)?;
     add_marked_run_text(page, alloc, scene, numbers.as_slice())
 }

@@ -193,6 +193,19 @@ fn add_graphviz_positions(
     Ok(())
 }
 
+/// Adds the moves, and the dead ends.
+fn add_graphviz_moves(
+    out: &mut Vec<u8>,
+    alloc: Global,
+    scene: &Scene<'_>,
+    search: &SearchGraph<'_>,
+) -> Result<(), AllocError> {
+    for (number, step) in search.moves.iter().enumerate() {
+        add_graphviz_move(out, alloc, scene, search, number, step)?;
+    }
+    Ok(())
+}
+
 /// The search as Graphviz text, under a title.
 pub fn search_as_graphviz_text(
     alloc: Global,
@@ -207,9 +220,7 @@ pub fn search_as_graphviz_text(
         add_graphviz_dead_end(&mut out, alloc, 0, b"the initial state faults", RED)?;
     }
     add_graphviz_positions(&mut out, alloc, scene, search)?;
-    for (number, step) in search.moves.iter().enumerate() {
-        add_graphviz_move(&mut out, alloc, scene, search, number, step)?;
-    }
+    add_graphviz_moves(&mut out, alloc, scene, search)?;
     add_str(&mut out, "}\n")?;
     Ok(out)
 }

@@ -5,14 +5,27 @@ use crate::walk_text::add_states_along_walk_text;
 use pst_eval::Callback;
 use pst_model::Source;
 use pst_scene::{
-    Call, CasePart, Page, Scene, Table, add_interleaving_letters, add_str, copy_explanation_text,
-    expression_text, join_explanation_parts, row_of_two_plain_cells, value_text,
+    Binding, Call, CasePart, Page, Scene, Table, add_interleaving_letters, add_str,
+    copy_explanation_text, expression_text, join_explanation_parts, row_of_two_plain_cells,
+    value_text,
 };
 use pst_value::Fault;
 use std::alloc::{AllocError, Global};
 
 /// What an explanation says in place of the states before a failure, if their search takes too many steps.
 const NO_WALK: &str = "The states before it are left out: their search takes too many steps.";
+
+/// Adds a row of a name and its value.
+fn add_name_and_value_row(
+    table: &mut Table,
+    alloc: Global,
+    model: &Source,
+    binding: &Binding,
+) -> Result<(), AllocError> {
+    let name = Vec::from_slice(alloc, binding.name.as_slice())?;
+    let value = value_text(alloc, model, &binding.value)?;
+    table.add_row(row_of_two_plain_cells(alloc, name, value)?)
+}
 
 /// Adds an expression, and the names in it with their values.
 fn add_expression_and_values_of_names(
@@ -25,12 +38,7 @@ fn add_expression_and_values_of_names(
     page.add_line(alloc, 4, text.as_slice())?;
     let mut table = Table::new(alloc)?;
     for binding in &evaluated.names {
-        let name = Vec::from_slice(alloc, binding.name.as_slice())?;
-        table.add_row(row_of_two_plain_cells(
-            alloc,
-            name,
-            value_text(alloc, model, &binding.value)?,
-        )?)?;
+        add_name_and_value_row(&mut table, alloc, model, binding)?;
     }
     table.write(page, alloc, 6)
 }

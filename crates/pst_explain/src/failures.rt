@@ -138,6 +138,38 @@ fn command_callback_expression<'a>(
     }
 }
 
+/// Returns the expression of the `next` of a command, and the part of it that faults. `env` has no
+/// result yet.
+fn next_expression<'a>(
+    alloc: Global,
+    scene: &Scene<'a>,
+    call: &Call<'_>,
+    expr: &'a Expr,
+    env: &Env<'_>,
+) -> Result<Option<ExpressionWithFailingPart<'a>>, AllocError> {
+    let result = reference_to_result(alloc, call)?;
+    let inner = Env::With(b"r", &result, &*env);
+    expression_with_failing_part(alloc, scene, expr, &inner)
+}
+
+/// Returns the expression of the `post` of a command, and the part of it that faults. `env` has no
+/// result yet. `None` if the reply is no value.
+fn post_expression<'a>(
+    alloc: Global,
+    scene: &Scene<'a>,
+    call: &Call<'_>,
+    expr: &'a Expr,
+    env: &Env<'_>,
+) -> Result<Option<ExpressionWithFailingPart<'a>>, AllocError> {
+    match call.reply {
+        Some(Reply::Value(value)) => {
+            let inner = Env::With(b"r", &*value, &*env);
+            expression_with_failing_part(alloc, scene, expr, &inner)
+        }
+        _ => Ok(None),
+    }
+}
+
 /// Returns the expression of a callback of a command on `state`, the state before it, and the part of it that faults.
 /// `None` for `init` and `command`, for `post` if the reply is no value, and if the model has no such operation.
 fn callback_expression<'a>(
@@ -156,19 +188,25 @@ fn callback_expression<'a>(
     match callback {
         Callback::Init | Callback::Command => Ok(None),
         Callback::Pre => expression_with_failing_part(alloc, scene, &operation.pre, &env),
-        Callback::Next => {
-            let result = reference_to_result(alloc, call)?;
-            let inner = Env::With(b"r", &result, &env);
-            expression_with_failing_part(alloc, scene, &operation.next, &inner)
-        }
-        Callback::Post => match call.reply {
-            Some(Reply::Value(value)) => {
-                let inner = Env::With(b"r", value, &env);
-                expression_with_failing_part(alloc, scene, &operation.post, &inner)
-            }
-            _ => Ok(None),
-        },
+        Callback::Next => next_expression(alloc, scene, call, &operation.next, &env),
+        Callback::Post => post_expression(alloc, scene, call, &operation.post, &env),
     }
+}
+
+/// Returns the walk along the commands `before` of the interleaving `word`, as far as `states` has
+/// states, with the commands that cannot come next after them.
+fn walk_with_blocked_calls<'a>(
+    alloc: Global,
+    scene: &Scene<'a>,
+    word: &[usize],
+    before: &[Call<'a>],
+    states: &[Value],
+) -> Result<InterleavingStates<'a>, AllocError> {
+    let mut walk = walk_along_calls(alloc, scene, word, before, states)?;
+    if let Some(state) = states.get(before.len()) {
+        walk.stopped = blocked_calls_after(alloc, scene, before, state)?;
+    }
+    Ok(walk)
 }
 
 /// Returns the failure of a callback of a command in the interleaving `word`. `fault` is its fault, or `None` if it is
@@ -185,12 +223,11 @@ pub fn failure_of_call_in_interleaving<'a>(
     let before = before.as_slice();
     let states = states_along_calls(alloc, scene, before)?;
     let states = states.as_slice();
-    let mut walk = walk_along_calls(alloc, scene, word, before, states)?;
-    let mut expression = None;
-    if let Some(state) = states.get(before.len()) {
-        expression = callback_expression(alloc, scene, callback, &call, state)?;
-        walk.stopped = blocked_calls_after(alloc, scene, before, state)?;
-    }
+    let expression = match states.get(before.len()) {
+        Some(state) => callback_expression(alloc, scene, callback, &call, state)?,
+        None => None,
+    };
+    let walk = walk_with_blocked_calls(alloc, scene, word, before, states)?;
     Ok(Failure {
         callback,
         call: Some(call),

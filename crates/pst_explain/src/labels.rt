@@ -16,16 +16,24 @@ pub fn add_graphviz_node_name(
     add_number(out, number)
 }
 
+/// Adds a byte of a text in quotes, escaped so that Graphviz shows it.
+fn add_graphviz_quoted_byte(out: &mut Vec<u8>, byte: u8) -> Result<(), AllocError> {
+    match byte {
+        b'"' => add_str(out, "\\\""),
+        b'\\' => add_str(out, "\\\\"),
+        b'&' => add_str(out, "&amp;"),
+        other => {
+            out.push(other)?;
+            Ok(())
+        }
+    }
+}
+
 /// Adds a text in quotes, escaped so that Graphviz shows each byte.
 pub fn add_graphviz_quoted_text(out: &mut Vec<u8>, text: &[u8]) -> Result<(), AllocError> {
     add_str(out, "\"")?;
     for byte in text {
-        match *byte {
-            b'"' => add_str(out, "\\\"")?,
-            b'\\' => add_str(out, "\\\\")?,
-            b'&' => add_str(out, "&amp;")?,
-            other => out.push(other)?,
-        }
+        add_graphviz_quoted_byte(out, *byte)?;
     }
     add_str(out, "\"")
 }

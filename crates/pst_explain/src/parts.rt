@@ -76,6 +76,19 @@ fn longest_branch_length(scene: &Scene<'_>) -> usize {
     most
 }
 
+/// Adds the branches one below another.
+fn add_branches_as_lines(
+    page: &mut Page,
+    alloc: Global,
+    scene: &Scene<'_>,
+    marked: &[u32],
+) -> Result<(), AllocError> {
+    for branch in &scene.calls.branches {
+        add_case_part_text(page, alloc, scene, marked, branch.as_slice())?;
+    }
+    Ok(())
+}
+
 /// Adds the branches side by side, or one below another if columns would be too narrow.
 fn add_branches_in_columns_or_stacked(
     page: &mut Page,
@@ -90,10 +103,7 @@ fn add_branches_in_columns_or_stacked(
     if table.has_wide_enough_columns(page, 3, LEAST_COLUMN) {
         return table.write(page, alloc, 3);
     }
-    for branch in &scene.calls.branches {
-        add_case_part_text(page, alloc, scene, marked, branch.as_slice())?;
-    }
-    Ok(())
+    add_branches_as_lines(page, alloc, scene, marked)
 }
 
 /// Adds the run: the prefix, the branches side by side, and the suffix, with `*` before each marked command.

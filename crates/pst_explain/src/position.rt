@@ -22,15 +22,21 @@ fn index_of_case_part(scene: &Scene<'_>, part: CasePart) -> usize {
     }
 }
 
+/// The counts of the position before all commands.
+fn zero_for_each_part(alloc: Global, scene: &Scene<'_>) -> Result<Vec<usize>, AllocError> {
+    let mut counts = Vec::new(alloc);
+    counts.push(0)?;
+    for _branch in &scene.calls.branches {
+        counts.push(0)?;
+    }
+    counts.push(0)?;
+    Ok(counts)
+}
+
 impl Position {
     /// The position before all commands.
     pub fn first(alloc: Global, scene: &Scene<'_>, state: Value) -> Result<Position, AllocError> {
-        let mut counts = Vec::new(alloc);
-        counts.push(0)?;
-        for _branch in &scene.calls.branches {
-            counts.push(0)?;
-        }
-        counts.push(0)?;
+        let counts = zero_for_each_part(alloc, scene)?;
         Ok(Position { counts, state })
     }
 

@@ -1,11 +1,11 @@
 //! Scripts in which a callback faults.
 
 use crate::failure_text::add_failure_explanation_text;
-use crate::failures::{command_callback_failure_after_script, failure_at_fault_place};
+use crate::failures::{Failure, command_callback_failure_after_script, failure_at_fault_place};
 use pst_case::{Case, CaseFaultKind, Command, Run, shape};
 use pst_eval::{Callback, FaultPlace};
 use pst_model::Typed;
-use pst_scene::{Page, scene_of_run};
+use pst_scene::{Page, Scene, scene_of_run};
 use pst_value::Items;
 use std::alloc::{AllocError, Global};
 
@@ -35,6 +35,43 @@ fn run_with_script_as_prefix(
     }
 }
 
+/// Returns the failure at `place` after the script, whose commands are all commands of the item.
+fn failure_after_script<'a>(
+    alloc: Global,
+    scene: &Scene<'a>,
+    place: FaultPlace,
+) -> Result<Failure<'a>, AllocError> {
+    match place.callback {
+        Callback::Command => command_callback_failure_after_script(alloc, scene, place.fault),
+        _ => failure_at_fault_place(alloc, scene, &[], place),
+    }
+}
+
+/// Returns the text of a failure, in lines of at most `width` bytes as far as sentences allow.
+fn failure_text(
+    alloc: Global,
+    scene: &Scene<'_>,
+    failure: &Failure<'_>,
+    width: usize,
+) -> Result<Vec<u8>, AllocError> {
+    let mut page = Page::new(alloc, width);
+    add_failure_explanation_text(&mut page, alloc, scene, failure)?;
+    Ok(page.into_text())
+}
+
+/// Returns the text of the failure at `place` after the script that is the prefix of `run`.
+fn failure_text_after_script(
+    alloc: Global,
+    typed: &Typed,
+    run: &Run,
+    place: FaultPlace,
+    width: usize,
+) -> Result<Vec<u8>, AllocError> {
+    let scene = scene_of_run(alloc, typed, run)?;
+    let failure = failure_after_script(alloc, &scene, place)?;
+    failure_text(alloc, &scene, &failure, width)
+}
+
 /// Returns why no case can be generated, in lines of at most `width` bytes as far as sentences allow: the callback that
 /// faults, its expression with the values of its names, the part of it that faults, and the states before. `commands`
 /// are those of the script so far; if `pre` or `next` faults, the last of them is its command. `None` if they are no
@@ -49,12 +86,6 @@ pub fn explain_fault_in_generation(
     let Some(run) = run_with_script_as_prefix(alloc, typed, commands)? else {
         return Ok(None);
     };
-    let scene = scene_of_run(alloc, typed, &run)?;
-    let failure = match place.callback {
-        Callback::Command => command_callback_failure_after_script(alloc, &scene, place.fault)?,
-        _ => failure_at_fault_place(alloc, &scene, &[], place)?,
-    };
-    let mut page = Page::new(alloc, width);
-    add_failure_explanation_text(&mut page, alloc, &scene, &failure)?;
-    Ok(Some(page.into_text()))
+    let text = failure_text_after_script(alloc, typed, &run, place, width)?;
+    Ok(Some(text))
 }

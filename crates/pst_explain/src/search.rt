@@ -67,6 +67,15 @@ fn move_and_target_unless_dead_end(
 }
 
 impl<'a> SearchGraph<'a> {
+    /// A search without positions.
+    fn empty(alloc: Global) -> SearchGraph<'a> {
+        SearchGraph {
+            positions: Vec::new(alloc),
+            moves: Vec::new(alloc),
+            shown: Vec::new(alloc),
+        }
+    }
+
     /// The number of the position. Adds the position if it is new.
     fn find_or_add_position(&mut self, position: Position) -> Result<usize, AllocError> {
         if let Some(number) = index_of_position(self.positions.as_slice(), &position) {
@@ -97,6 +106,21 @@ impl<'a> SearchGraph<'a> {
         Ok(())
     }
 
+    /// Tries each command that may come next at position `from`.
+    fn add_moves_of_next_calls(
+        &mut self,
+        alloc: Global,
+        scene: &Scene<'a>,
+        from: usize,
+        position: &Position,
+    ) -> Result<(), AllocError> {
+        let next = position.next_calls(alloc, scene)?;
+        for call in &next {
+            self.add_move_of_call(alloc, scene, from, position, *call)?;
+        }
+        Ok(())
+    }
+
     /// Expands position `from`: tries each command that may come next there.
     fn expand_position(
         &mut self,
@@ -108,11 +132,7 @@ impl<'a> SearchGraph<'a> {
             return Ok(());
         };
         let position = position.copied(alloc)?;
-        let next = position.next_calls(alloc, scene)?;
-        for call in &next {
-            self.add_move_of_call(alloc, scene, from, &position, *call)?;
-        }
-        Ok(())
+        self.add_moves_of_next_calls(alloc, scene, from, &position)
     }
 
     /// Expands the positions along the commands, and notes their moves.
@@ -183,11 +203,7 @@ fn build_search_along_calls<'a>(
     scene: &Scene<'a>,
     shown: &[Call<'_>],
 ) -> Result<SearchGraph<'a>, AllocError> {
-    let mut search = SearchGraph {
-        positions: Vec::new(alloc),
-        moves: Vec::new(alloc),
-        shown: Vec::new(alloc),
-    };
+    let mut search = SearchGraph::empty(alloc);
     let Some(state) = initial_state(alloc, scene)? else {
         return Ok(search);
     };
@@ -221,6 +237,30 @@ fn positions_along_shown_interleaving(
     Ok(numbers)
 }
 
+/// Whether a move is from one of the positions `kept`, and is along the displayed interleaving or
+/// leads to a dead end.
+fn is_move_kept(step: &GraphMove<'_>, is_shown: bool, kept: &[usize]) -> bool {
+    kept.contains(&step.from) && (is_shown || matches!(step.target, MoveTarget::DeadEnd(_)))
+}
+
+/// The target of a move, with its new number if only the positions `kept` stay.
+fn target_among_kept_positions<'a>(target: MoveTarget<'a>, kept: &[usize]) -> MoveTarget<'a> {
+    match target {
+        MoveTarget::Position(to) => MoveTarget::Position(number_among_kept_positions(kept, to)),
+        MoveTarget::DeadEnd(why) => MoveTarget::DeadEnd(why),
+    }
+}
+
+/// A move, with the new numbers of its positions if only the positions `kept` stay.
+fn move_among_kept_positions<'a>(step: GraphMove<'a>, kept: &[usize]) -> GraphMove<'a> {
+    let GraphMove { from, call, target } = step;
+    GraphMove {
+        from: number_among_kept_positions(kept, from),
+        call,
+        target: target_among_kept_positions(target, kept),
+    }
+}
+
 impl<'a> SearchGraph<'a> {
     /// Adds a move of a larger search, of which the positions `kept` stay, if the move is along the displayed
     /// interleaving or leads to a dead end.
@@ -230,22 +270,43 @@ impl<'a> SearchGraph<'a> {
         is_shown: bool,
         kept: &[usize],
     ) -> Result<(), AllocError> {
-        let GraphMove { from, call, target } = step;
-        if !kept.contains(&from) {
+        if !is_move_kept(&step, is_shown, kept) {
+            drop(step);
             return Ok(());
         }
-        let from = number_among_kept_positions(kept, from);
-        let target = match target {
-            MoveTarget::Position(to) if is_shown => MoveTarget::Position(
-                number_among_kept_positions(kept, to),
-            ),
-            MoveTarget::Position(_) => return Ok(()),
-            MoveTarget::DeadEnd(why) => MoveTarget::DeadEnd(why),
-        };
+        let number = self.moves.len();
+        self.moves.push(move_among_kept_positions(step, kept))?;
         if is_shown {
-            self.shown.push(self.moves.len())?;
+            self.shown.push(number)?;
         }
-        self.moves.push(GraphMove { from, call, target })?;
+        Ok(())
+    }
+
+    /// Adds those moves of a larger search, of which the positions `kept` stay, that are along the
+    /// displayed interleaving or lead to a dead end. `shown` has the numbers of the former.
+    fn add_moves_shown_or_to_dead_ends(
+        &mut self,
+        moves: Vec<GraphMove<'a>>,
+        shown: &[usize],
+        kept: &[usize],
+    ) -> Result<(), AllocError> {
+        for (number, step) in moves.into_iter().enumerate() {
+            self.add_move_if_shown_or_dead_end(step, shown.contains(&number), kept)?;
+        }
+        Ok(())
+    }
+
+    /// Adds those of the positions that have the numbers `kept`.
+    fn add_kept_positions(
+        &mut self,
+        positions: Vec<Position>,
+        kept: &[usize],
+    ) -> Result<(), AllocError> {
+        for (number, position) in positions.into_iter().enumerate() {
+            if kept.contains(&number) {
+                self.positions.push(position)?;
+            }
+        }
         Ok(())
     }
 }
@@ -258,24 +319,14 @@ pub fn build_search_graph_of_interleaving<'a>(
 ) -> Result<SearchGraph<'a>, AllocError> {
     let search = build_search_along_calls(alloc, scene, shown)?;
     let kept = positions_along_shown_interleaving(alloc, &search)?;
-    let mut path = SearchGraph {
-        positions: Vec::new(alloc),
-        moves: Vec::new(alloc),
-        shown: Vec::new(alloc),
-    };
+    let mut path = SearchGraph::empty(alloc);
     let SearchGraph {
         positions,
         moves,
         shown,
     } = search;
-    for (number, position) in positions.into_iter().enumerate() {
-        if kept.contains(&number) {
-            path.positions.push(position)?;
-        }
-    }
-    for (number, step) in moves.into_iter().enumerate() {
-        path.add_move_if_shown_or_dead_end(step, shown.contains(&number), kept.as_slice())?;
-    }
+    path.add_kept_positions(positions, kept.as_slice())?;
+    path.add_moves_shown_or_to_dead_ends(moves, shown.as_slice(), kept.as_slice())?;
     Ok(path)
 }
 

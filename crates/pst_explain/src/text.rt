@@ -49,6 +49,14 @@ fn add_count_of_holding_events(text: &mut Vec<u8>, far: usize) -> Result<(), All
     add_str(text, " events hold")
 }
 
+/// Returns a sentence that says that in every interleaving `far` events hold before one does not.
+fn sentence_on_every_interleaving(alloc: Global, far: usize) -> Result<Vec<u8>, AllocError> {
+    let mut text = copy_explanation_text(alloc, "In every interleaving ")?;
+    add_count_of_holding_events(&mut text, far)?;
+    add_str(&mut text, " before one does not:")?;
+    Ok(text)
+}
+
 /// Returns a sentence on the interleaving that gets furthest: `far` events hold in it before one does not, and it begins
 /// with `word`. If `word` is empty, every interleaving gets as far.
 fn furthest_interleaving_sentence(
@@ -63,10 +71,7 @@ fn furthest_interleaving_sentence(
         );
     }
     if word.is_empty() {
-        let mut text = copy_explanation_text(alloc, "In every interleaving ")?;
-        add_count_of_holding_events(&mut text, far)?;
-        add_str(&mut text, " before one does not:")?;
-        return Ok(text);
+        return sentence_on_every_interleaving(alloc, far);
     }
     let mut text = copy_explanation_text(alloc, "No interleaving gets further than ")?;
     add_interleaving_letters(&mut text, word)?;

@@ -97,6 +97,18 @@ pub fn add_explaining_interleaving_text(
     Ok(())
 }
 
+/// Adds a row of a command that cannot come next, with its reply, and the reason.
+fn add_blocked_call_row(
+    table: &mut Table,
+    alloc: Global,
+    model: &Source,
+    stop: &BlockedCall<'_>,
+) -> Result<(), AllocError> {
+    let text = stop.call.text_with_reply(alloc, model)?;
+    let why = dead_end_text(alloc, model, &stop.why)?;
+    table.add_row(row_of_two_plain_cells(alloc, text, why)?)
+}
+
 /// Adds each command that cannot come next, with its reply and the reason.
 pub fn add_blocked_calls_text(
     page: &mut Page,
@@ -115,9 +127,7 @@ pub fn add_blocked_calls_text(
     )?;
     let mut table = Table::new(alloc)?;
     for stop in stopped {
-        let text = stop.call.text_with_reply(alloc, model)?;
-        let why = dead_end_text(alloc, model, &stop.why)?;
-        table.add_row(row_of_two_plain_cells(alloc, text, why)?)?;
+        add_blocked_call_row(&mut table, alloc, model, stop)?;
     }
     table.write_or_stack(page, alloc, 4)
 }

@@ -72,6 +72,39 @@ pub fn walk_without_states<'a>(
     })
 }
 
+/// Returns the step of a command: `before` is the state before it, `state` the one after it.
+fn step_of_call<'a>(
+    alloc: Global,
+    scene: &Scene<'_>,
+    before: &Value,
+    call: &Call<'a>,
+    state: &Value,
+) -> Result<InterleavingStep<'a>, AllocError> {
+    Ok(InterleavingStep {
+        call: *call,
+        precondition: evaluate_precondition(alloc, scene, before, call)?,
+        state: state.copy(alloc)?,
+    })
+}
+
+/// Returns the steps along `calls` from the state `first` on, as far as `others` has the states
+/// after them.
+fn steps_along_calls<'a>(
+    alloc: Global,
+    scene: &Scene<'_>,
+    calls: &[Call<'a>],
+    first: &Value,
+    others: &[Value],
+) -> Result<Vec<InterleavingStep<'a>>, AllocError> {
+    let mut steps = Vec::new(alloc);
+    let mut before = first;
+    for (call, state) in calls.iter().zip(others) {
+        steps.push(step_of_call(alloc, scene, before, call, state)?)?;
+        before = state;
+    }
+    Ok(steps)
+}
+
 /// Returns the walk along `calls`, as far as `states` has states: the initial one, and one after each command in turn.
 pub fn walk_along_calls<'a>(
     alloc: Global,
@@ -80,21 +113,18 @@ pub fn walk_along_calls<'a>(
     calls: &[Call<'a>],
     states: &[Value],
 ) -> Result<InterleavingStates<'a>, AllocError> {
-    let mut walk = walk_without_states(alloc, word)?;
     let Some((first, others)) = states.split_first() else {
-        return Ok(walk);
+        return walk_without_states(alloc, word);
     };
-    walk.start = Some(first.copy(alloc)?);
-    let mut before = first;
-    for (call, state) in calls.iter().zip(others) {
-        walk.steps.push(InterleavingStep {
-            call: *call,
-            precondition: evaluate_precondition(alloc, scene, before, call)?,
-            state: state.copy(alloc)?,
-        })?;
-        before = state;
-    }
-    Ok(walk)
+    let word = Vec::from_slice(alloc, word)?;
+    let start = first.copy(alloc)?;
+    let steps = steps_along_calls(alloc, scene, calls, first, others)?;
+    Ok(InterleavingStates {
+        word,
+        start: Some(start),
+        steps,
+        stopped: Vec::new(alloc),
+    })
 }
 
 /// Returns the branch of each command that is in a branch.
@@ -108,6 +138,20 @@ fn interleaving_of_calls(alloc: Global, calls: &[Call<'_>]) -> Result<Vec<usize>
     Ok(word)
 }
 
+/// Adds the command to `stopped` if it cannot come next on `state`.
+fn add_call_if_blocked<'a>(
+    stopped: &mut Vec<BlockedCall<'a>>,
+    alloc: Global,
+    scene: &Scene<'a>,
+    call: &Call<'a>,
+    state: &Value,
+) -> Result<(), AllocError> {
+    if let Outcome::Refused(why) = outcome_of_call_on_state(alloc, scene, state, call)? {
+        stopped.push(BlockedCall { call: *call, why })?;
+    }
+    Ok(())
+}
+
 /// Returns each command that comes next in its part after `calls` but cannot on `state`, the state after them.
 pub fn blocked_calls_after<'a>(
     alloc: Global,
@@ -119,9 +163,7 @@ pub fn blocked_calls_after<'a>(
     let next = calls_that_may_come_next(alloc, &scene.calls, word.as_slice(), calls.len())?;
     let mut stopped = Vec::new(alloc);
     for call in &next {
-        if let Outcome::Refused(why) = outcome_of_call_on_state(alloc, scene, state, call)? {
-            stopped.push(BlockedCall { call: *call, why })?;
-        }
+        add_call_if_blocked(&mut stopped, alloc, scene, call, state)?;
     }
     Ok(stopped)
 }

@@ -137,20 +137,25 @@ fn shortened(alloc: Global, line: &str) -> Result<String, AllocError> {
     String::from_str(alloc, line)
 }
 
+/// Adds the lines of an output, with `, ` between them, or that it is empty.
+fn push_lines(alloc: Global, text: &mut String, output: &str) -> Result<(), AllocError> {
+    if output.is_empty() {
+        return text.push_str(" nothing");
+    }
+    for (index, line) in output.lines().enumerate() {
+        text.push_str(if index == 0 { " " } else { ", " })?;
+        text.push_str(shortened(alloc, line)?.as_str())?;
+    }
+    Ok(())
+}
+
 /// Returns the status code and the output, with `, ` between its lines.
 pub fn spoken(alloc: Global, answer: &Answer) -> Result<String, AllocError> {
     let code = answer.status.code();
     let mut text = format!(in alloc; "{code}")?;
-    let Ok(lines) = std::str::from_utf8(answer.bytes.as_slice()) else {
-        text.push_str(" no text")?;
-        return Ok(text);
-    };
-    for (index, line) in lines.lines().enumerate() {
-        text.push_str(if index == 0 { " " } else { ", " })?;
-        text.push_str(shortened(alloc, line)?.as_str())?;
-    }
-    if lines.is_empty() {
-        text.push_str(" nothing")?;
+    match std::str::from_utf8(answer.bytes.as_slice()) {
+        Ok(output) => push_lines(alloc, &mut text, output)?,
+        Err(_) => text.push_str(" no text")?,
     }
     Ok(text)
 }

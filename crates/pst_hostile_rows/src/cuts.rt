@@ -1,6 +1,6 @@
 //! A file that is cut off after each of its bytes.
 
-use crate::commands::{Command, answer_of, spoken};
+use crate::commands::{Answer, Command, answer_of, spoken};
 use pst_tests::support::COUNTER;
 use std::alloc::{AllocError, Global};
 use std::io;
@@ -36,23 +36,46 @@ fn wanted(alloc: Global, cut: &[u8], model: usize) -> Result<String, AllocError>
     String::from_str(alloc, "0 nothing")
 }
 
+/// Returns a file, after the number of bytes that its model takes at the beginning.
+fn model_and_file(alloc: Global) -> Result<(usize, String), AllocError> {
+    let model = format!(in alloc; "\n {COUNTER}")?;
+    let file = format!(in alloc;
+        "{model}\n (run (prefix) (left (inc)) (right (inc)) (replies () (1) (2)))"
+    )?;
+    Ok((model.len(), file))
+}
+
+/// Prints the answer for `cut` unless it is the expected one.
+fn print_cut<R: Print + AllocGlobal>(
+    rt: &R,
+    cut: &[u8],
+    model: usize,
+    judged: &Answer,
+) -> io::Result<()> {
+    let text = spoken(rt.alloc(), judged)?;
+    let want = wanted(rt.alloc(), cut, model)?;
+    if text.as_str() != want.as_str() {
+        let length = cut.len();
+        println!(rt; "cut at {length}: {text}, wanted {want}")?;
+    }
+    Ok(())
+}
+
+/// Prints the answer for the whole file.
+fn print_whole<R: Print + AllocGlobal>(rt: &R, judged: &Answer) -> io::Result<()> {
+    let text = spoken(rt.alloc(), judged)?;
+    println!(rt; "not cut: {text}")
+}
+
 /// Prints each beginning of a file that `judge` does not answer as expected, and its answer for the whole file.
 pub fn print_cuts<R: Threads + Wait + Sync + Print + AllocGlobal>(rt: &R) -> io::Result<()> {
     let alloc = rt.alloc();
-    let before = format!(in alloc; "\n {COUNTER}")?;
-    let file = format!(in alloc;
-        "{before}\n (run (prefix) (left (inc)) (right (inc)) (replies () (1) (2)))"
-    )?;
+    let (model, file) = model_and_file(alloc)?;
     for length in 0..file.len() {
         let cut = &file.as_bytes()[..length];
         let judged = answer_of(rt, alloc, Command::Judge, cut, usize::MAX)?;
-        let text = spoken(alloc, &judged)?;
-        let want = wanted(alloc, cut, before.len())?;
-        if text.as_str() != want.as_str() {
-            println!(rt; "cut at {length}: {text}, wanted {want}")?;
-        }
+        print_cut(rt, cut, model, &judged)?;
     }
     let judged = answer_of(rt, alloc, Command::Judge, file.as_bytes(), usize::MAX)?;
-    let text = spoken(alloc, &judged)?;
-    println!(rt; "not cut: {text}")
+    print_whole(rt, &judged)
 }

@@ -78,17 +78,22 @@ fn asked(deep: Deep) -> &'static [Command] {
     }
 }
 
+/// Prints whether the model at the beginning of `text` is read as it is printed.
+fn print_printed<R: Print + AllocGlobal>(rt: &R, name: &str, text: &[u8]) -> io::Result<()> {
+    let printed = match is_printed(rt.alloc(), text) {
+        Some(true) => "is read as it is printed",
+        Some(false) => "is read otherwise",
+        None => "has no model",
+    };
+    println!(rt; "{name}: {printed}")
+}
+
 /// Prints each command's answer at each limit, and the warnings.
 pub fn print_depths<R: Threads + Wait + Sync + Print + AllocGlobal>(rt: &R) -> io::Result<()> {
-    for (name, deep) in LIMITS {
-        let text = text_of(rt.alloc(), deep)?;
-        let printed = match is_printed(rt.alloc(), text.as_bytes()) {
-            Some(true) => "is read as it is printed",
-            Some(false) => "is read otherwise",
-            None => "has no model",
-        };
-        println!(rt; "{name}: {printed}")?;
-        for command in asked(deep) {
+    for (name, deep) in &LIMITS {
+        let text = text_of(rt.alloc(), *deep)?;
+        print_printed(rt, *name, text.as_bytes())?;
+        for command in asked(*deep) {
             print_command(rt, *command, text.as_bytes())?;
         }
         print_warnings(rt, text.as_str())?;

@@ -4,12 +4,13 @@ use crate::commands::{Answer, spoken};
 use crate::models::TYPES;
 use crate::odd::Odd;
 use pst_campaign::Unwatched;
-use pst_cli::{campaign_text, run_text};
+use pst_cli::{Status, campaign_text, run_text};
 use pst_system::BoxedSystem;
 use pst_tests::short::Short;
 use pst_tests::support::{COUNTER, ONE};
 use pst_tests::systems::{Liar, NoGet, Resets};
 use pst_trial::Settings;
+use std::alloc::{AllocError, Global};
 use std::io;
 use std::sync::Wait;
 use std::thread::Threads;
@@ -52,15 +53,13 @@ const CALLS: [(&str, &str); 34] = [
     ("table", "a reference in a map"),
 ];
 
-/// Drives the items of `input` on `system` and prints the status and the output.
-fn print_run<R: Threads + Wait + Print + AllocGlobal>(
+/// Prints the status and the output, which `short` has taken.
+fn print_answer<R: Print + AllocGlobal>(
     rt: &R,
     name: &str,
-    input: &str,
-    system: &mut BoxedSystem,
+    status: Status,
+    short: Short,
 ) -> io::Result<()> {
-    let mut short = Short::new(rt.alloc(), usize::MAX);
-    let status = run_text(rt, rt.alloc(), input.as_bytes(), system, &mut short);
     let Short {
         bytes,
         room: _,
@@ -75,38 +74,50 @@ fn print_run<R: Threads + Wait + Print + AllocGlobal>(
     println!(rt; "{name}: {text}")
 }
 
+/// Drives the items on `system` and prints the status and the output.
+fn print_run<R: Threads + Wait + Print + AllocGlobal>(
+    rt: &R,
+    name: &str,
+    model: &str,
+    items: &str,
+    system: &mut BoxedSystem,
+) -> io::Result<()> {
+    let input = format!(in rt.alloc(); "{model} {items}")?;
+    let mut short = Short::new(rt.alloc(), usize::MAX);
+    let status = run_text(rt, rt.alloc(), input.as_bytes(), system, &mut short);
+    print_answer(rt, name, status, short)
+}
+
+/// A case whose prefix is a call of `operation`, which asks for the answer `name`.
+fn case_of(alloc: Global, operation: &str, name: &str) -> Result<String, AllocError> {
+    format!(in alloc; "(case (prefix ({operation} \"{name}\")) (left) (right))")
+}
+
 /// Prints the result of each odd answer in the prefix of a case, and of a case with odd answers in its branches.
 fn print_odd<R: Threads + Wait + Print + AllocGlobal>(rt: &R) -> io::Result<()> {
     let alloc = rt.alloc();
     let mut odd: BoxedSystem = Box::new(alloc, Odd::new(alloc))?;
-    for (operation, name) in CALLS {
-        let input = format!(in alloc;
-            "{TYPES} (case (prefix ({operation} \"{name}\")) (left) (right))"
-        )?;
-        print_run(rt, "odd", input.as_str(), &mut odd)?;
+    for (operation, name) in &CALLS {
+        let items = case_of(alloc, *operation, *name)?;
+        print_run(rt, "odd", TYPES, items.as_str(), &mut odd)?;
     }
     let items = "(case (prefix) (left (lists \"100 levels\") (number \"an integer\"))
       (right (table \"falling keys\")) (suffix (number \"an integer\")))";
-    let input = format!(in alloc; "{TYPES} {items}")?;
-    print_run(rt, "odd", input.as_str(), &mut odd)
+    print_run(rt, "odd", TYPES, items, &mut odd)
 }
 
 /// Prints the results of cases on the other systems.
 fn print_others<R: Threads + Wait + Print + AllocGlobal>(rt: &R) -> io::Result<()> {
     let alloc = rt.alloc();
     let mut liar: BoxedSystem = Box::new(alloc, Liar)?;
-    let input = format!(in alloc; "{COUNTER} (case (prefix (inc) (get)) (left (get)) (right))")?;
-    print_run(rt, "liar", input.as_str(), &mut liar)?;
+    let items = "(case (prefix (inc) (get)) (left (get)) (right))";
+    print_run(rt, "liar", COUNTER, items, &mut liar)?;
     let mut no_get: BoxedSystem = Box::new(alloc, NoGet::new())?;
-    let input = format!(in alloc;
-        "{COUNTER} (case (prefix (inc)) (left (get) (inc)) (right (inc)))"
-    )?;
-    print_run(rt, "no get", input.as_str(), &mut no_get)?;
+    let items = "(case (prefix (inc)) (left (get) (inc)) (right (inc)))";
+    print_run(rt, "no get", COUNTER, items, &mut no_get)?;
     let mut one_reset: BoxedSystem = Box::new(alloc, Resets::new(1))?;
-    let input = format!(in alloc;
-        "{COUNTER} (case (prefix) (left) (right)) (case (prefix) (left) (right))"
-    )?;
-    print_run(rt, "one reset", input.as_str(), &mut one_reset)
+    let items = "(case (prefix) (left) (right)) (case (prefix) (left) (right))";
+    print_run(rt, "one reset", COUNTER, items, &mut one_reset)
 }
 
 /// Prints the report of a campaign on a system that can be reset `resets` times.

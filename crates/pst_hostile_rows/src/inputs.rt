@@ -48,6 +48,21 @@ fn print_judged<R: Threads + Wait + Sync + Print + AllocGlobal>(
     Ok(judged)
 }
 
+/// Prints the answer of a command if it is no refusal, or another one than that of `judge`.
+fn print_other<R: Print + AllocGlobal>(
+    rt: &R,
+    command: Command,
+    other: &Answer,
+    judged: &Answer,
+) -> io::Result<()> {
+    if other.status != Status::Refused || other.bytes.as_slice() != judged.bytes.as_slice() {
+        let word = command.name();
+        let text = spoken(rt.alloc(), other)?;
+        println!(rt; "  {word}: {text}")?;
+    }
+    Ok(())
+}
+
 /// Prints the answer of `judge`. If `judge` refuses the input, it also prints each command that answers otherwise.
 fn print_input<R: Threads + Wait + Sync + Print + AllocGlobal>(
     rt: &R,
@@ -61,13 +76,16 @@ fn print_input<R: Threads + Wait + Sync + Print + AllocGlobal>(
     }
     for command in COMMANDS {
         let other = answer_of(rt, alloc, command, input, usize::MAX)?;
-        if other.status != Status::Refused || other.bytes.as_slice() != judged.bytes.as_slice() {
-            let word = command.name();
-            let text = spoken(alloc, &other)?;
-            println!(rt; "  {word}: {text}")?;
-        }
+        print_other(rt, command, &other, &judged)?;
     }
     Ok(())
+}
+
+/// An input with its name.
+#[derive(Drop)]
+struct NamedInput {
+    name: String,
+    text: String,
 }
 
 /// Returns `text`, filled up with spaces to `length` bytes.
@@ -78,27 +96,41 @@ fn padded(alloc: Global, text: &str, length: usize) -> Result<String, AllocError
     Ok(whole)
 }
 
+/// What the largest inputs consist of: the model, and bytes.
+const PARTS: [&str; 7] = [COUNTER, "(", ")", "a", "\"", ";", "\\"];
+
+/// Returns the input of `length` times the part, a byte. For the model it is the model, filled up
+/// with spaces to `length` bytes.
+fn largest(alloc: Global, part: &str, length: usize) -> Result<NamedInput, AllocError> {
+    if part == COUNTER {
+        let text = padded(alloc, part, length)?;
+        let name = format!(in alloc; "a model in {length} bytes")?;
+        return Ok(NamedInput { name, text });
+    }
+    let text = part.repeat(alloc, length)?;
+    let name = format!(in alloc; "{length} times {part}")?;
+    Ok(NamedInput { name, text })
+}
+
+/// Returns the input of `depth` brackets that are not closed.
+fn brackets(alloc: Global, depth: usize) -> Result<NamedInput, AllocError> {
+    let text = "(".repeat(alloc, depth)?;
+    let name = format!(in alloc; "{depth} brackets")?;
+    Ok(NamedInput { name, text })
+}
+
 /// Prints the answers for inputs of the greatest size that a file may have, and of one byte more.
 fn print_largest<R: Threads + Wait + Sync + Print + AllocGlobal>(rt: &R) -> io::Result<()> {
     let alloc = rt.alloc();
     let most: usize = 1_048_576;
-    for length in [most, most + 1] {
-        let text = padded(alloc, COUNTER, length)?;
-        let name = format!(in alloc; "a model in {length} bytes")?;
-        let _ = print_judged(rt, name.as_str(), text.as_bytes())?;
-        for part in ["(", ")", "a", "\"", ";", "\\"] {
-            let text = part.repeat(alloc, length)?;
-            let name = format!(in alloc; "{length} times {part}")?;
-            let _ = print_judged(rt, name.as_str(), text.as_bytes())?;
+    for length in most..most + 2 {
+        for part in &PARTS {
+            let input = largest(alloc, *part, length)?;
+            let _ = print_judged(rt, input.name.as_str(), input.text.as_bytes())?;
         }
     }
     let text = "()".repeat(alloc, most / 2)?;
     let _ = print_judged(rt, "524288 empty nodes", text.as_bytes())?;
-    for depth in [100, 101] {
-        let text = "(".repeat(alloc, depth)?;
-        let name = format!(in alloc; "{depth} brackets")?;
-        print_input(rt, name.as_str(), text.as_bytes())?;
-    }
     Ok(())
 }
 
@@ -124,13 +156,25 @@ fn print_lines<R: Threads + Wait + Sync + Print + AllocGlobal>(
     print_input(rt, name, text.as_bytes())
 }
 
+/// The line ends of files, with their names.
+const LINE_ENDS: [(&str, &str); 3] = [
+    ("line ends LF", "\n"),
+    ("line ends CR LF", "\r\n"),
+    ("line ends CR", "\r"),
+];
+
 /// Prints all inputs.
 pub fn print_inputs<R: Threads + Wait + Sync + Print + AllocGlobal>(rt: &R) -> io::Result<()> {
-    for (name, input) in INPUTS {
-        print_input(rt, name, input)?;
+    for (name, input) in &INPUTS {
+        print_input(rt, *name, *input)?;
     }
-    print_lines(rt, "line ends LF", "\n")?;
-    print_lines(rt, "line ends CR LF", "\r\n")?;
-    print_lines(rt, "line ends CR", "\r")?;
-    print_largest(rt)
+    for (name, line_end) in &LINE_ENDS {
+        print_lines(rt, *name, *line_end)?;
+    }
+    print_largest(rt)?;
+    for depth in 100..102 {
+        let input = brackets(rt.alloc(), depth)?;
+        print_input(rt, input.name.as_str(), input.text.as_bytes())?;
+    }
+    Ok(())
 }

@@ -29,8 +29,8 @@ const CALLS: [&str; 13] = [
     "campaign_of_two",
 ];
 
-/// Makes the call `call` and returns its result as text.
-fn answer<R: Threads + Wait + Sync>(rt: &R, alloc: Global, call: &str) -> Result<String, Refused> {
+/// Makes the call `call`, which starts no threads, and returns its result as text.
+fn answer_without_threads(alloc: Global, call: &str) -> Result<String, Refused> {
     match call {
         "read" => reading::read_answer(alloc),
         "read_model" => reading::model_answer(alloc),
@@ -40,12 +40,19 @@ fn answer<R: Threads + Wait + Sync>(rt: &R, alloc: Global, call: &str) -> Result
         "some" => judging::verdict_answer(alloc),
         "every" => judging::valid_answer(alloc),
         "generate" => judging::generate_answer(alloc),
+        _ => Err(Refused::Otherwise("no call")),
+    }
+}
+
+/// Makes the call `call` and returns its result as text.
+fn answer<R: Threads + Wait + Sync>(rt: &R, alloc: Global, call: &str) -> Result<String, Refused> {
+    match call {
         "trial" => trials::trial_answer(rt, alloc),
         "report" => trials::report_answer(rt, alloc),
         "rejudge" => judging::rejudge_answer(rt, alloc),
         "campaign" => trials::campaign_answer(rt, alloc, 1),
         "campaign_of_two" => trials::campaign_answer(rt, alloc, 2),
-        _ => Err(Refused::Otherwise("no call")),
+        _ => answer_without_threads(alloc, call),
     }
 }
 

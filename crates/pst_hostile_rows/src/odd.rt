@@ -27,6 +27,16 @@ fn both(alloc: Global, first: Value, second: Value) -> Result<Items<Value>, Allo
     Ok(items)
 }
 
+/// A list of `count` zeros as a value.
+fn zero_list(alloc: Global, count: usize) -> Result<Value, AllocError> {
+    Ok(Value::List(zeros(alloc, count)?))
+}
+
+/// A list of one value as a value.
+fn list_of(alloc: Global, value: Value) -> Result<Value, AllocError> {
+    Ok(Value::List(alone(alloc, value)?))
+}
+
 /// A reference to the integer 1.
 fn reference(alloc: Global) -> Result<Value, AllocError> {
     Ok(Value::Ref(1, Boxed::new(alloc, Value::Int(1))?))
@@ -97,48 +107,90 @@ fn map_of(alloc: Global, value: Value) -> Result<Value, AllocError> {
     entries(alloc, keys, values)
 }
 
+/// A map of two keys to zeros, with `values` values.
+fn map_of_two(alloc: Global, one: Key, other: Key, values: usize) -> Result<Value, AllocError> {
+    zero_map(alloc, &[one, other], values)
+}
+
+/// Returns the answer `name` if it is a map of one or two keys to zeros.
+fn odd_keys(alloc: Global, name: &str) -> Result<Option<Value>, AllocError> {
+    let value = match name {
+        "rising keys" => map_of_two(alloc, Key::Int(1), Key::Int(2), 2),
+        "falling keys" => map_of_two(alloc, Key::Int(2), Key::Int(1), 2),
+        "equal keys" => map_of_two(alloc, Key::Int(1), Key::Int(1), 2),
+        "mixed keys" => map_of_two(alloc, Key::Int(1), Key::Bool(true), 2),
+        "more keys than values" => map_of_two(alloc, Key::Int(1), Key::Int(2), 1),
+        "more values than keys" => zero_map(alloc, &[Key::Int(1)], 2),
+        _ => return Ok(None),
+    };
+    Ok(Some(value?))
+}
+
 /// Returns the answer `name` if it is a map.
 fn odd_map(alloc: Global, name: &str) -> Result<Option<Value>, AllocError> {
     let value = match name {
-        "rising keys" => zero_map(alloc, &[Key::Int(1), Key::Int(2)], 2)?,
-        "falling keys" => zero_map(alloc, &[Key::Int(2), Key::Int(1)], 2)?,
-        "equal keys" => zero_map(alloc, &[Key::Int(1), Key::Int(1)], 2)?,
-        "mixed keys" => zero_map(alloc, &[Key::Int(1), Key::Bool(true)], 2)?,
-        "more keys than values" => zero_map(alloc, &[Key::Int(1), Key::Int(2)], 1)?,
-        "more values than keys" => zero_map(alloc, &[Key::Int(1)], 2)?,
-        "4097 keys" => large_map(alloc, 4_097)?,
-        "4096 keys" => large_map(alloc, 4_096)?,
-        "a variable in a map" => map_of(alloc, Value::Var(1))?,
-        "a reference in a map" => map_of(alloc, reference(alloc)?)?,
-        _ => return Ok(None),
+        "4097 keys" => large_map(alloc, 4_097),
+        "4096 keys" => large_map(alloc, 4_096),
+        "a variable in a map" => map_of(alloc, Value::Var(1)),
+        "a reference in a map" => map_of(alloc, reference(alloc)?),
+        _ => return odd_keys(alloc, name),
     };
-    Ok(Some(value))
+    Ok(Some(value?))
+}
+
+/// A tuple of `count` zeros.
+fn zero_tuple(alloc: Global, count: usize) -> Result<Value, AllocError> {
+    Ok(Value::Tuple(zeros(alloc, count)?))
+}
+
+/// A tuple of the integer 1 and the list of a variable.
+fn tuple_with_variable(alloc: Global) -> Result<Value, AllocError> {
+    let list = list_of(alloc, Value::Var(1))?;
+    Ok(Value::Tuple(both(alloc, Value::Int(1), list)?))
+}
+
+/// A tuple of a reference and the list of a zero.
+fn tuple_with_reference(alloc: Global) -> Result<Value, AllocError> {
+    let list = zero_list(alloc, 1)?;
+    Ok(Value::Tuple(both(alloc, reference(alloc)?, list)?))
+}
+
+/// Returns the answer `name` if it is a tuple or a map.
+fn odd_tuple(alloc: Global, name: &str) -> Result<Option<Value>, AllocError> {
+    let value = match name {
+        "one item" => zero_tuple(alloc, 1),
+        "9 items" => zero_tuple(alloc, 9),
+        "a variable in a tuple" => tuple_with_variable(alloc),
+        "a reference in a tuple" => tuple_with_reference(alloc),
+        _ => return odd_map(alloc, name),
+    };
+    Ok(Some(value?))
 }
 
 /// Returns the answer `name` if it is a list, a tuple or a map.
 fn odd_list(alloc: Global, name: &str) -> Result<Option<Value>, AllocError> {
     let value = match name {
-        "65537 items" => Value::List(zeros(alloc, 65_537)?),
-        "65536 items" => Value::List(zeros(alloc, 65_536)?),
-        "a reference in a list" => Value::List(alone(alloc, reference(alloc)?)?),
-        "a variable in lists" => {
-            let inner = Value::List(alone(alloc, Value::Var(1))?);
-            Value::List(alone(alloc, inner)?)
-        }
-        "100 levels" => nested(alloc, 100)?,
-        "one item" => Value::Tuple(zeros(alloc, 1)?),
-        "9 items" => Value::Tuple(zeros(alloc, 9)?),
-        "a variable in a tuple" => {
-            let list = Value::List(alone(alloc, Value::Var(1))?);
-            Value::Tuple(both(alloc, Value::Int(1), list)?)
-        }
-        "a reference in a tuple" => {
-            let list = Value::List(zeros(alloc, 1)?);
-            Value::Tuple(both(alloc, reference(alloc)?, list)?)
-        }
-        _ => return odd_map(alloc, name),
+        "65537 items" => zero_list(alloc, 65_537),
+        "65536 items" => zero_list(alloc, 65_536),
+        "a reference in a list" => list_of(alloc, reference(alloc)?),
+        "a variable in lists" => list_of(alloc, list_of(alloc, Value::Var(1))?),
+        "100 levels" => nested(alloc, 100),
+        _ => return odd_tuple(alloc, name),
     };
-    Ok(Some(value))
+    Ok(Some(value?))
+}
+
+/// Returns the answer `name` if it is a text, a list, a tuple or a map.
+fn odd_text(alloc: Global, name: &str) -> Result<Option<Value>, AllocError> {
+    let value = match name {
+        "no letter" => text_value(alloc, ""),
+        "a line end" => text_value(alloc, "\n"),
+        "a letter beyond ASCII" => text_value(alloc, "\u{e9}"),
+        "65537 letters" => letters(alloc, 65_537),
+        "65536 letters" => letters(alloc, 65_536),
+        _ => return odd_list(alloc, name),
+    };
+    Ok(Some(value?))
 }
 
 /// Returns the answer `name`, if there is one.
@@ -149,12 +201,7 @@ pub fn odd_value(alloc: Global, name: &str) -> Result<Option<Value>, AllocError>
         "a variable" => Value::Var(1),
         "a reference" => reference(alloc)?,
         "a call" => Value::Call(0, Items::new(alloc)),
-        "no letter" => text_value(alloc, "")?,
-        "a line end" => text_value(alloc, "\n")?,
-        "a letter beyond ASCII" => text_value(alloc, "\u{e9}")?,
-        "65537 letters" => letters(alloc, 65_537)?,
-        "65536 letters" => letters(alloc, 65_536)?,
-        _ => return odd_list(alloc, name),
+        _ => return odd_text(alloc, name),
     };
     Ok(Some(value))
 }

@@ -23,13 +23,31 @@ fn is_found(alloc: Global, value: &Value, other: &Value) -> Result<bool, AllocEr
     Ok(seen.contains(value) && !seen.contains(other))
 }
 
+/// Returns whether a copy of `value` is alike, with a `Debug` form of more than `bytes` bytes.
+fn is_copied(alloc: Global, value: &Value, bytes: usize) -> Result<bool, AllocError> {
+    let copy = value.copy(alloc)?;
+    are_alike(alloc, value, &copy, bytes)
+}
+
+/// Returns whether `value` is found in a set of it alone, and its plain form is not.
+fn is_told_from_plain(alloc: Global, value: &Value) -> Result<bool, AllocError> {
+    let plain = value.plain(alloc)?;
+    is_found(alloc, value, &plain)
+}
+
+/// Returns whether `value`, whose one variable is 1, is copied, compared, hashed, searched and
+/// written correctly in this thread. Its `Debug` form has more than `bytes` bytes.
+fn is_handled(alloc: Global, value: &Value, bytes: usize) -> Result<bool, AllocError> {
+    let is_copied = is_copied(alloc, value, bytes)?;
+    let is_found = is_told_from_plain(alloc, value)?;
+    Ok(is_copied && is_found && value.uses(1) && !value.uses(2))
+}
+
 /// Returns whether a value of `levels` levels is copied, compared, hashed, searched and written correctly in this
 /// thread.
 fn is_kept(alloc: Global, levels: usize) -> Result<bool, AllocError> {
     let value = mixed(alloc, levels)?;
-    let are_alike = are_alike(alloc, &value, &value.copy(alloc)?, levels)?;
-    let is_found = is_found(alloc, &value, &value.plain(alloc)?)?;
-    Ok(are_alike && is_found && value.uses(1) && !value.uses(2))
+    is_handled(alloc, &value, levels)
 }
 
 /// Returns whether `is_kept` holds in threads of their own.

@@ -1,6 +1,8 @@
 //! Calls.
 
-use crate::values::{write_json_reply_without_value, write_json_value_and_text};
+use crate::values::{
+    write_json_reply_without_value, write_json_value_and_text, write_json_values_member,
+};
 use crate::writing::{write_json_byte_string, write_json_number_member};
 use json::Writer;
 use pst_case::Reply;
@@ -57,6 +59,20 @@ fn write_json_operation_member(
     }
 }
 
+/// Writes the members `id`, `number`, `part` and `index`: the place and the number of a call.
+fn write_json_call_place_members(
+    writer: &mut Writer<Global>,
+    alloc: Global,
+    call: &Call<'_>,
+) -> Result<(), AllocError> {
+    writer.key("id")?;
+    write_json_call_id(writer, alloc, call)?;
+    write_json_number_member(writer, "number", call.number as usize)?;
+    writer.key("part")?;
+    write_json_byte_string(writer, alloc, &[call.part.letter()])?;
+    write_json_number_member(writer, "index", call.place)
+}
+
 /// Writes a call.
 fn write_json_call(
     writer: &mut Writer<Global>,
@@ -65,19 +81,10 @@ fn write_json_call(
     call: &Call<'_>,
 ) -> Result<(), AllocError> {
     writer.begin_object()?;
-    writer.key("id")?;
-    write_json_call_id(writer, alloc, call)?;
-    write_json_number_member(writer, "number", call.number as usize)?;
-    writer.key("part")?;
-    write_json_byte_string(writer, alloc, &[call.part.letter()])?;
-    write_json_number_member(writer, "index", call.place)?;
+    write_json_call_place_members(writer, alloc, call)?;
     write_json_operation_member(writer, scene, call)?;
-    writer.key("args")?;
-    writer.begin_array()?;
-    for arg in call.command.args.as_slice() {
-        write_json_value_and_text(writer, alloc, scene.model, arg)?;
-    }
-    writer.end_array()?;
+    let args = call.command.args.as_slice();
+    write_json_values_member(writer, alloc, "args", scene.model, args)?;
     if let Some(reply) = call.reply {
         writer.key("reply")?;
         write_json_reply(writer, alloc, scene.model, reply)?;

@@ -2,7 +2,7 @@
 
 use crate::calls::write_json_call_member;
 use crate::reasons::write_json_false_postcondition;
-use crate::values::{write_json_state_member, write_json_value_and_text};
+use crate::values::{write_json_state_member, write_json_values_member};
 use crate::walks::write_json_interleaving_member;
 use crate::writing::write_json_bool_member;
 use json::Writer;
@@ -36,12 +36,8 @@ fn write_json_allowed_answers(
 ) -> Result<(), AllocError> {
     writer.key("allowed")?;
     writer.begin_object()?;
-    writer.key("values")?;
-    writer.begin_array()?;
-    for value in answer.allowed.values.as_slice() {
-        write_json_value_and_text(writer, alloc, model, value)?;
-    }
-    writer.end_array()?;
+    let values = answer.allowed.values.as_slice();
+    write_json_values_member(writer, alloc, "values", model, values)?;
     write_json_bool_member(writer, "all", answer.allowed.all)?;
     write_json_bool_member(writer, "only", answer.has_all_allowed_answers())?;
     writer.end_object()

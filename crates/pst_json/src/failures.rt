@@ -8,8 +8,22 @@ use crate::writing::{
 use json::Writer;
 use pst_explain::{CallWithBrokenReply, ExpressionWithNameValues, FailingPart, Failure};
 use pst_model::Source;
-use pst_scene::value_text;
+use pst_scene::{Binding, value_text};
 use std::alloc::{AllocError, Global};
+
+/// Writes a name with its value.
+fn write_json_name_and_value(
+    writer: &mut Writer<Global>,
+    alloc: Global,
+    model: &Source,
+    binding: &Binding,
+) -> Result<(), AllocError> {
+    let value = value_text(alloc, model, &binding.value)?;
+    writer.begin_array()?;
+    write_json_byte_string(writer, alloc, binding.name.as_slice())?;
+    write_json_spelling_cut_if_long(writer, alloc, value.as_slice())?;
+    writer.end_array()
+}
 
 /// Writes the members of an expression, and its names with their values.
 fn write_json_evaluated_expression(
@@ -22,11 +36,7 @@ fn write_json_evaluated_expression(
     writer.key("names")?;
     writer.begin_array()?;
     for binding in &evaluated.names {
-        let value = value_text(alloc, model, &binding.value)?;
-        writer.begin_array()?;
-        write_json_byte_string(writer, alloc, binding.name.as_slice())?;
-        write_json_spelling_cut_if_long(writer, alloc, value.as_slice())?;
-        writer.end_array()?;
+        write_json_name_and_value(writer, alloc, model, binding)?;
     }
     writer.end_array()
 }

@@ -120,6 +120,37 @@ fn write_json_move(
     writer.end_object()
 }
 
+/// Writes the member `nodes`: the positions.
+fn write_json_positions(
+    writer: &mut Writer<Global>,
+    alloc: Global,
+    model: &Source,
+    search: &SearchGraph<'_>,
+) -> Result<(), AllocError> {
+    writer.key("nodes")?;
+    writer.begin_array()?;
+    for position in &search.positions {
+        write_json_position(writer, alloc, model, position)?;
+    }
+    writer.end_array()
+}
+
+/// Writes the member `edges`: the moves.
+fn write_json_moves(
+    writer: &mut Writer<Global>,
+    alloc: Global,
+    model: &Source,
+    search: &SearchGraph<'_>,
+) -> Result<(), AllocError> {
+    writer.key("edges")?;
+    writer.begin_array()?;
+    for (number, step) in search.moves.iter().enumerate() {
+        let is_shown = search.shown.iter().any(|shown| *shown == number);
+        write_json_move(writer, alloc, model, step, is_shown)?;
+    }
+    writer.end_array()
+}
+
 /// Writes the member `graph`.
 fn write_json_graph(
     writer: &mut Writer<Global>,
@@ -129,19 +160,26 @@ fn write_json_graph(
 ) -> Result<(), AllocError> {
     writer.key("graph")?;
     writer.begin_object()?;
-    writer.key("nodes")?;
-    writer.begin_array()?;
-    for position in &search.positions {
-        write_json_position(writer, alloc, model, position)?;
+    write_json_positions(writer, alloc, model, search)?;
+    write_json_moves(writer, alloc, model, search)?;
+    writer.end_object()
+}
+
+/// Writes the member `search`: how many interleavings there are, and how many positions and moves
+/// `search` has.
+fn write_json_search_counts(
+    writer: &mut Writer<Global>,
+    scene: &Scene<'_>,
+    search: Option<&SearchGraph<'_>>,
+) -> Result<(), AllocError> {
+    writer.key("search")?;
+    writer.begin_object()?;
+    writer.key("orders")?;
+    writer.u64(count_interleavings(scene))?;
+    if let Some(search) = search {
+        write_json_number_member(writer, "positions", search.positions.len())?;
+        write_json_number_member(writer, "moves", search.moves.len())?;
     }
-    writer.end_array()?;
-    writer.key("edges")?;
-    writer.begin_array()?;
-    for (number, step) in search.moves.iter().enumerate() {
-        let is_shown = search.shown.iter().any(|shown| *shown == number);
-        write_json_move(writer, alloc, model, step, is_shown)?;
-    }
-    writer.end_array()?;
     writer.end_object()
 }
 
@@ -152,15 +190,7 @@ pub fn write_json_search_and_graph_if_small(
     explanation: &Explanation<'_>,
 ) -> Result<(), AllocError> {
     let search = search_graph_to_write_if_small(alloc, explanation)?;
-    writer.key("search")?;
-    writer.begin_object()?;
-    writer.key("orders")?;
-    writer.u64(count_interleavings(&explanation.scene))?;
-    if let Some(search) = &search {
-        write_json_number_member(writer, "positions", search.positions.len())?;
-        write_json_number_member(writer, "moves", search.moves.len())?;
-    }
-    writer.end_object()?;
+    write_json_search_counts(writer, &explanation.scene, search.as_ref())?;
     match &search {
         Some(search) => write_json_graph(writer, alloc, explanation.scene.model, search),
         None => Ok(()),

@@ -88,6 +88,23 @@ fn write_json_functions(
     writer.end_array()
 }
 
+/// Writes the members `state` and `init`: the type of the state, and the initial state.
+fn write_json_state_members(
+    writer: &mut Writer<Global>,
+    alloc: Global,
+    items: &[Item],
+) -> Result<(), AllocError> {
+    if let Some(ty) = state_of(items) {
+        writer.key("state")?;
+        write_json_type(writer, alloc, ty)?;
+    }
+    if let Some(expr) = initial_state_of(items) {
+        writer.key("init")?;
+        write_json_expression(writer, alloc, expr)?;
+    }
+    Ok(())
+}
+
 /// Writes the member `model`.
 pub fn write_json_model(
     writer: &mut Writer<Global>,
@@ -98,14 +115,7 @@ pub fn write_json_model(
     writer.key("model")?;
     writer.begin_object()?;
     write_json_text_member(writer, "name", model.name.as_str())?;
-    if let Some(ty) = state_of(items) {
-        writer.key("state")?;
-        write_json_type(writer, alloc, ty)?;
-    }
-    if let Some(expr) = initial_state_of(items) {
-        writer.key("init")?;
-        write_json_expression(writer, alloc, expr)?;
-    }
+    write_json_state_members(writer, alloc, items)?;
     write_json_operations(writer, alloc, items)?;
     write_json_functions(writer, alloc, items)?;
     writer.end_object()

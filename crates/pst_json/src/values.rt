@@ -160,6 +160,22 @@ pub fn write_json_value_and_text(
     writer.end_object()
 }
 
+/// Writes a member whose value is an array of values.
+pub fn write_json_values_member(
+    writer: &mut Writer<Global>,
+    alloc: Global,
+    key: &str,
+    model: &Source,
+    values: &[Value],
+) -> Result<(), AllocError> {
+    writer.key(key)?;
+    writer.begin_array()?;
+    for value in values {
+        write_json_value_and_text(writer, alloc, model, value)?;
+    }
+    writer.end_array()
+}
+
 /// Writes a member whose value is a value.
 pub fn write_json_value_member(
     writer: &mut Writer<Global>,

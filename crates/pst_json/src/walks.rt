@@ -81,6 +81,21 @@ fn write_json_blocked_calls(
     writer.end_array()
 }
 
+/// Writes the member `steps`: the calls in their order.
+fn write_json_walk_steps(
+    writer: &mut Writer<Global>,
+    alloc: Global,
+    model: &Source,
+    steps: &[InterleavingStep<'_>],
+) -> Result<(), AllocError> {
+    writer.key("steps")?;
+    writer.begin_array()?;
+    for step in steps {
+        write_json_walk_step(writer, alloc, model, step)?;
+    }
+    writer.end_array()
+}
+
 /// Writes the member `walk` of an explanation.
 pub fn write_json_walk(
     writer: &mut Writer<Global>,
@@ -96,12 +111,7 @@ pub fn write_json_walk(
     if let Some(start) = &walk.start {
         write_json_state_member(writer, alloc, "start", model, start)?;
     }
-    writer.key("steps")?;
-    writer.begin_array()?;
-    for step in &walk.steps {
-        write_json_walk_step(writer, alloc, model, step)?;
-    }
-    writer.end_array()?;
+    write_json_walk_steps(writer, alloc, model, walk.steps.as_slice())?;
     write_json_blocked_calls(writer, alloc, model, walk.stopped.as_slice())?;
     writer.end_object()
 }

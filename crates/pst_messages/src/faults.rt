@@ -15,21 +15,28 @@ use std::alloc::{AllocError, Global};
 /// The width of lines.
 const WIDTH: usize = 80;
 
+/// Whether an item is that of `callback`, which is not a callback of an operation.
+fn is_item_of_model_callback(item: &Item, callback: Callback) -> bool {
+    match item {
+        Item::Init(_) => callback == Callback::Init,
+        Item::Command(_) => callback == Callback::Command,
+        _ => false,
+    }
+}
+
 /// The number, from 0, of the item of `callback`: `init`, `command`, or the operation with the number `operation`.
 fn item_number_of_callback(items: &[Item], callback: Callback, operation: u32) -> usize {
     let mut operations: u32 = 0;
+    let is_of_operation = !matches!(callback, Callback::Init | Callback::Command);
     for (number, item) in items.iter().enumerate() {
-        match item {
-            Item::Init(_) if callback == Callback::Init => return number,
-            Item::Command(_) if callback == Callback::Command => return number,
-            Item::Op(_) => {
-                let is_asked = !matches!(callback, Callback::Init | Callback::Command);
-                if is_asked && operations == operation {
-                    return number;
-                }
-                operations = operations.saturating_add(1);
+        if is_item_of_model_callback(item, callback) {
+            return number;
+        }
+        if let Item::Op(_) = item {
+            if is_of_operation && operations == operation {
+                return number;
             }
-            _ => {}
+            operations = operations.saturating_add(1);
         }
     }
     0

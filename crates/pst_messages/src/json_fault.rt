@@ -169,6 +169,27 @@ fn is_among_first_json_members(members: &[(&str, Json<'_>)], count: usize, name:
     members.iter().take(count).any(|(other, _)| *other == name)
 }
 
+/// The fault of the member `number`, whose key is at `key`: it is unknown, has a fault in its value, or has the name of
+/// an earlier member.
+fn fault_of_json_member_at(
+    alloc: Global,
+    line: &[u8],
+    members: &[(&str, Json<'_>)],
+    number: usize,
+    key: Span,
+    value: Span,
+) -> FoundFault {
+    let Some((name, _)) = members.get(number) else {
+        return Ok(None);
+    };
+    let found = json_member_fault(alloc, line, name, key, value)?;
+    if found.is_some() || !is_among_first_json_members(members, number, name) {
+        return Ok(found);
+    }
+    let what = format_args!("the member `{name}` is there twice");
+    Ok(Some(ByteFault::new(alloc, key, what)?))
+}
+
 /// The fault of the first member that is unknown, has a fault in its value, or has the name of an earlier member.
 fn fault_of_first_bad_json_member(
     alloc: Global,
@@ -176,17 +197,13 @@ fn fault_of_first_bad_json_member(
     members: &[(&str, Json<'_>)],
 ) -> FoundFault {
     let mut parts = JsonPartCursor::of(json_value_span(line, 0));
-    for (number, (name, _)) in members.iter().enumerate() {
+    for number in 0..members.len() {
         let (Some(key), Some(value)) = (parts.next(line), parts.next(line)) else {
             return Ok(None);
         };
-        let found = json_member_fault(alloc, line, name, key, value)?;
+        let found = fault_of_json_member_at(alloc, line, members, number, key, value)?;
         if found.is_some() {
             return Ok(found);
-        }
-        if is_among_first_json_members(members, number, name) {
-            let what = format_args!("the member `{name}` is there twice");
-            return Ok(Some(ByteFault::new(alloc, key, what)?));
         }
     }
     Ok(None)

@@ -8,8 +8,8 @@ use crate::json_places::{
 use pst_json_runs::json_line_tree;
 use pst_model::Typed;
 use pst_run_problems::{node_parts_or_empty, run_problem};
-use pst_runs::read_runs;
-use pst_sexpr::{Form, tree_in};
+use pst_runs::{RunFault, read_runs};
+use pst_sexpr::{Form, Tree, tree_in};
 use pst_sources::Span;
 use pst_syntax_problems::{Problem, head_word_or_empty, shortened_tree_text};
 use std::alloc::{AllocError, Global};
@@ -125,6 +125,12 @@ fn hint_on_foreign_json_value(line: &[u8], value: Span, before: &str) -> Option<
     }
 }
 
+/// Whether a value may be one that no model has, by its first byte.
+fn may_be_foreign_json_value(line: &[u8], value: Span) -> bool {
+    let first = first_byte_of_json_value_or_zero(line, value);
+    first == b'"' || first == b'-' || first == b'n' || first.is_ascii_digit()
+}
+
 /// The first value in an array that no model has, with a hint, or else the array itself without one. A message shows it
 /// after `before`.
 fn foreign_json_value_or_whole(
@@ -140,12 +146,7 @@ fn foreign_json_value_or_whole(
         }
         let part = json_value_span(line, at);
         let is_begun = at >= end_of_part && at == part.start && part.start < part.end;
-        if is_begun
-            && matches!(
-                first_byte_of_json_value_or_zero(line, part),
-                b'"' | b'-' | b'0'..=b'9' | b'n'
-            )
-        {
+        if is_begun && may_be_foreign_json_value(line, part) {
             found = (part, hint_on_foreign_json_value(line, part, before));
             end_of_part = part.end;
         }
@@ -253,6 +254,38 @@ fn json_fault_from_tree_problem(
     with_notes_in_json_terms(alloc, fault, problem.notes.as_slice())
 }
 
+/// The fault of a JSON item whose tree is refused with `fault`.
+fn json_fault_from_run_fault(
+    alloc: Global,
+    typed: &Typed,
+    line: &[u8],
+    tree: &Tree,
+    fault: RunFault,
+) -> Result<Option<ByteFault>, AllocError> {
+    match run_problem(alloc, typed.source(), tree.form(), fault)? {
+        Some(problem) => Ok(Some(json_fault_from_tree_problem(
+            alloc,
+            line,
+            tree.form(),
+            &problem,
+        )?)),
+        None => Ok(None),
+    }
+}
+
+/// The fault of the JSON item on a line, whose form has none, if it is refused.
+fn json_item_fault_beyond_form(
+    alloc: Global,
+    typed: &Typed,
+    line: &[u8],
+) -> Result<Option<ByteFault>, AllocError> {
+    let tree = json_line_tree(alloc, typed.source(), line)?;
+    match read_runs(alloc, typed, slice::from_ref(&tree)) {
+        Ok(_) => Ok(None),
+        Err(fault) => json_fault_from_run_fault(alloc, typed, line, &tree, fault),
+    }
+}
+
 /// The fault of the JSON item on a line, if it is refused.
 pub fn json_item_fault(
     alloc: Global,
@@ -263,17 +296,5 @@ pub fn json_item_fault(
     if found.is_some() {
         return Ok(found);
     }
-    let tree = json_line_tree(alloc, typed.source(), line)?;
-    let Err(fault) = read_runs(alloc, typed, slice::from_ref(&tree)) else {
-        return Ok(None);
-    };
-    match run_problem(alloc, typed.source(), tree.form(), fault)? {
-        Some(problem) => Ok(Some(json_fault_from_tree_problem(
-            alloc,
-            line,
-            tree.form(),
-            &problem,
-        )?)),
-        None => Ok(None),
-    }
+    json_item_fault_beyond_form(alloc, typed, line)
 }

@@ -111,6 +111,25 @@ fn problems_with_hint(
     Ok(noted)
 }
 
+/// Whether a text begins with a case or a run.
+fn begins_with_item(bytes: &[u8]) -> bool {
+    match first_item(bytes) {
+        Some(head) => head == "case" || head == "run",
+        None => false,
+    }
+}
+
+/// The hint to name the model's file first, if the input begins with no model.
+fn hint_on_missing_model_file(input: &Input<'_>, trees: &[Tree]) -> Option<&'static str> {
+    if trees.is_empty() && input.files.len() > 1 {
+        return Some("hint: the model's file comes first");
+    }
+    if begins_with_item(input.bytes) && !has_model_tree(trees) {
+        return Some("hint: name the model's file first");
+    }
+    None
+}
+
 /// The problems of a model that is refused for its form. If the input begins with no model but one of its files does, a
 /// hint names that file.
 fn form_problems_with_hints(
@@ -123,13 +142,10 @@ fn form_problems_with_hints(
         let hint = format!(in alloc; "hint: `{name}` begins with a model: name this file first")?;
         return problems_with_hint(alloc, problems, hint.as_str());
     }
-    if trees.is_empty() && input.files.len() > 1 {
-        return problems_with_hint(alloc, problems, "hint: the model's file comes first");
+    match hint_on_missing_model_file(input, trees) {
+        Some(hint) => problems_with_hint(alloc, problems, hint),
+        None => Ok(problems),
     }
-    if matches!(first_item(input.bytes), Some("case" | "run")) && !has_model_tree(trees) {
-        return problems_with_hint(alloc, problems, "hint: name the model's file first");
-    }
-    Ok(problems)
 }
 
 /// The problems of an ill-typed model, with hints on what is written as in another language.
@@ -224,6 +240,24 @@ fn add_unshown_refusal_count(text: &mut String, more: usize) -> Result<(), Alloc
     )
 }
 
+/// The error on the item at the span `item`, whose tree is refused with `fault`.
+fn notice_on_item_with_fault(
+    alloc: Global,
+    input: &Input<'_>,
+    typed: &Typed,
+    item: Span,
+    tree: &Tree,
+    fault: RunFault,
+) -> Result<Option<Notice>, AllocError> {
+    match run_problem(alloc, typed.source(), tree.form(), fault)? {
+        Some(problem) => {
+            let notice = notice_in_item(alloc, input, item, problem);
+            Ok(Some(with_misplaced_item_hint(alloc, input, tree, notice)?))
+        }
+        None => Ok(None),
+    }
+}
+
 /// The errors on the first `most` refused items after a model, and the number of further ones. Scans the input once.
 fn notices_on_refused_items(
     alloc: Global,
@@ -247,11 +281,10 @@ fn notices_on_refused_items(
                 run: index.saturating_add(1),
                 ..fault
             };
-            if let Some(problem) = run_problem(alloc, typed.source(), tree.form(), fault)? {
-                let notice = notice_in_item(alloc, input, span, problem);
-                notices
-                    .all
-                    .push(with_misplaced_item_hint(alloc, input, tree, notice)?)?;
+            if let Some(notice) = notice_on_item_with_fault(
+                alloc, input, typed, span, tree, fault,
+            )? {
+                notices.all.push(notice)?;
             }
         }
         refused = refused.saturating_add(1);

@@ -36,13 +36,6 @@ fn print_bool(alloc: Global, holds: bool) -> Result<Form, AllocError>
     }
 }
 
-/// A node of a word and a tree.
-fn node_of_one(alloc: Global, head: &str, first: Form) -> Result<Form, AllocError>
-    ensures { IfOk result (λ form. form ≡ headed head.now (first ∷ [])) }
-{
-    headed(alloc, head, list_of(alloc, first)?)
-}
-
 /// A node of a word and two trees.
 fn node_of_two(alloc: Global, head: &str, first: Form, second: Form) -> Result<Form, AllocError>
     ensures { IfOk result (λ form. form ≡ headed head.now (first ∷ second ∷ [])) }
@@ -60,32 +53,20 @@ fn node_of_three(
 ) -> Result<Form, AllocError>
     ensures { IfOk result (λ form. form ≡ headed head.now (first ∷ second ∷ third ∷ [])) }
 {
-    headed(
-        alloc,
-        head,
-        list_of_three_forms(alloc, first, second, third)?,
-    )
+    let parts = list_of_three_forms(alloc, first, second, third)?;
+    headed(alloc, head, parts)
 }
 
-fn print_let(alloc: Global, bound: &Text, value: Form, body: Form) -> Result<Form, AllocError>
-    ensures { IfOk result (λ form. form ≡ headed (codes "let") (Word bound.now ∷ value ∷ body ∷ [])) }
-{
-    let bound = print_name(alloc, bound)?;
-    headed(
-        alloc,
-        "let",
-        list_of_three_forms(alloc, bound, value, body)?,
-    )
-}
-
-fn print_tuple_item(alloc: Global, tuple: Form, number: u64) -> Result<Form, AllocError>
+/// An item of a tuple, by its place from 0.
+fn at_node(alloc: Global, tuple: Form, number: u64) -> Result<Form, AllocError>
     ensures { IfOk result (λ form. form ≡ headed (codes "at") (tuple ∷ Word (decimal number) ∷ [])) }
 {
     let place = print_tuple_place(alloc, number)?;
     node_of_two(alloc, "at", tuple, place)
 }
 
-fn print_list(alloc: Global, ty: &Ty, items: Items<Form>) -> Result<Form, AllocError>
+/// A list of items of a type.
+fn list_node(alloc: Global, ty: &Ty, items: Items<Form>) -> Result<Form, AllocError>
     ensures { IfOk result (λ form. form ≡ headed (codes "list") (ty_form ty.now ∷ items)) }
 {
     let ty = ty_form(alloc, ty)?;
@@ -100,7 +81,7 @@ fn print_empty_map(alloc: Global, kind: KeyTy, ty: &Ty) -> Result<Form, AllocErr
 }
 
 /// A fold, by the names of an item and of what is built.
-fn print_fold(
+fn fold_node(
     alloc: Global,
     names: (&Text, &Text),
     items: Form,
@@ -110,25 +91,19 @@ fn print_fold(
     ensures { IfOk result (λ form. form ≡ headed (codes "fold")
         (Word names.entry.0.now ∷ items ∷ Word names.entry.1.now ∷ first ∷ body ∷ [])) }
 {
-    let bound = print_name(alloc, names.0)?;
     let built = print_name(alloc, names.1)?;
     let rest = list_of_three_forms(alloc, built, first, body)?;
-    let parts = prepend_form(alloc, bound, prepend_form(alloc, items, rest)?)?;
-    headed(alloc, "fold", parts)
+    let rest = prepend_form(alloc, items, rest)?;
+    let bound = print_name(alloc, names.0)?;
+    headed(alloc, "fold", prepend_form(alloc, bound, rest)?)
 }
 
-fn print_call(alloc: Global, operation: &Text, args: Items<Form>) -> Result<Form, AllocError>
+/// A call of an operation.
+fn call_node(alloc: Global, operation: &Text, args: Items<Form>) -> Result<Form, AllocError>
     ensures { IfOk result (λ form. form ≡ headed (codes "call") (Word operation.now ∷ args)) }
 {
     let operation = print_name(alloc, operation)?;
     headed(alloc, "call", prepend_form(alloc, operation, args)?)
-}
-
-/// An application of a function.
-fn print_application(alloc: Global, function: &Text, args: Items<Form>) -> Result<Form, AllocError>
-    ensures { IfOk result (λ form. form ≡ headed function.now args) }
-{
-    headed(alloc, function.as_str(), args)
 }
 
 /// The tree of an expression.
@@ -142,51 +117,116 @@ pub fn expr_form(alloc: Global, expr: &Expr) -> Result<Form, AllocError>
         Expr::Bool(holds) => print_bool(alloc, *holds),
         Expr::Text(text) => Ok(Form::Text(text.copy(alloc)?)),
         Expr::Name(bound) => print_name(alloc, bound),
-        Expr::Let(bound, value, body) => {
-            print_let(alloc, bound, form_of(alloc, value)?, form_of(alloc, body)?)
-        }
+        Expr::Let(bound, value, body) => print_let(alloc, body, bound, form_of(alloc, value)?),
         Expr::If(test, yes, no) => {
-            let (test, yes) = (form_of(alloc, test)?, form_of(alloc, yes)?);
-            node_of_three(alloc, "if", test, yes, form_of(alloc, no)?)
+            let test = form_of(alloc, test)?;
+            print_third(alloc, no, "if", test, form_of(alloc, yes)?)
         }
-        Expr::And(a, b) => node_of_two(alloc, "and", form_of(alloc, a)?, form_of(alloc, b)?),
-        Expr::Or(a, b) => node_of_two(alloc, "or", form_of(alloc, a)?, form_of(alloc, b)?),
-        Expr::Unary(operator, a) => node_of_one(
-            alloc,
-            unary_operator_word(*operator),
-            form_of(alloc, a)?,
-        ),
+        Expr::And(a, b) => print_second(alloc, b, "and", form_of(alloc, a)?),
+        Expr::Or(a, b) => print_second(alloc, b, "or", form_of(alloc, a)?),
+        Expr::Unary(operator, a) => print_one(alloc, unary_operator_word(*operator), a),
         Expr::Binary(operator, a, b) => {
-            let word = binary_operator_word(*operator);
-            node_of_two(alloc, word, form_of(alloc, a)?, form_of(alloc, b)?)
+            print_second(
+                alloc,
+                b,
+                binary_operator_word(*operator),
+                form_of(alloc, a)?,
+            )
         }
         Expr::Tuple(parts) => headed(alloc, "tuple", print_expressions(alloc, parts.as_slice())?),
-        Expr::At(tuple, number) => print_tuple_item(alloc, form_of(alloc, tuple)?, *number),
-        Expr::List(ty, items) => print_list(alloc, ty, print_expressions(alloc, items.as_slice())?),
+        Expr::At(tuple, number) => at_node(alloc, form_of(alloc, tuple)?, *number),
+        Expr::List(ty, items) => list_node(alloc, ty, print_expressions(alloc, items.as_slice())?),
         Expr::For(clauses, body) => {
             let clauses = Form::Node(print_clauses(alloc, clauses.as_slice())?);
-            node_of_two(alloc, "for", clauses, form_of(alloc, body)?)
+            print_second(alloc, body, "for", clauses)
         }
         Expr::Fold(bound, items, built, first, body) => {
-            let (items, first) = (form_of(alloc, items)?, form_of(alloc, first)?);
-            print_fold(alloc, (bound, built), items, first, form_of(alloc, body)?)
+            let items = form_of(alloc, items)?;
+            print_fold(alloc, body, (bound, built), items, form_of(alloc, first)?)
         }
         Expr::Map(kind, ty) => print_empty_map(alloc, *kind, ty),
         Expr::Put(map, key, value) => {
-            let (map, key) = (form_of(alloc, map)?, form_of(alloc, key)?);
-            node_of_three(alloc, "put", map, key, form_of(alloc, value)?)
+            let map = form_of(alloc, map)?;
+            print_third(alloc, value, "put", map, form_of(alloc, key)?)
         }
-        Expr::Call(called, args) => print_call(
-            alloc,
-            called,
-            print_expressions(alloc, args.as_slice())?,
-        ),
-        Expr::Apply(called, args) => print_application(
-            alloc,
-            called,
-            print_expressions(alloc, args.as_slice())?,
-        ),
+        Expr::Call(called, args) => {
+            call_node(alloc, called, print_expressions(alloc, args.as_slice())?)
+        }
+        Expr::Apply(called, args) => {
+            headed(
+                alloc,
+                called.as_str(),
+                print_expressions(alloc, args.as_slice())?,
+            )
+        }
     }
+}
+
+/// A node of a word and a part of an expression.
+#[cycle(expr_form)]
+fn print_one(alloc: Global, head: &str, part: &Boxed<Expr>) -> Result<Form, AllocError>
+    ensures { IfOk result (λ form. form ≡ headed head.now (expr_form part.now ∷ [])) }
+{
+    let part = form_of(alloc, part)?;
+    headed(alloc, head, list_of(alloc, part)?)
+}
+
+/// A node of a word, a tree and a part of an expression.
+#[cycle(expr_form)]
+fn print_second(
+    alloc: Global,
+    second: &Boxed<Expr>,
+    head: &str,
+    first: Form,
+) -> Result<Form, AllocError>
+    ensures { IfOk result (λ form. form ≡ headed head.now (first ∷ expr_form second.now ∷ [])) }
+{
+    node_of_two(alloc, head, first, form_of(alloc, second)?)
+}
+
+/// A node of a word, two trees and a part of an expression.
+#[cycle(expr_form)]
+fn print_third(
+    alloc: Global,
+    third: &Boxed<Expr>,
+    head: &str,
+    first: Form,
+    second: Form,
+) -> Result<Form, AllocError>
+    ensures { IfOk result
+        (λ form. form ≡ headed head.now (first ∷ second ∷ expr_form third.now ∷ [])) }
+{
+    node_of_three(alloc, head, first, second, form_of(alloc, third)?)
+}
+
+/// A name that stands for a value in a body.
+#[cycle(expr_form)]
+fn print_let(
+    alloc: Global,
+    body: &Boxed<Expr>,
+    bound: &Text,
+    value: Form,
+) -> Result<Form, AllocError>
+    ensures { IfOk result
+        (λ form. form ≡ headed (codes "let") (Word bound.now ∷ value ∷ expr_form body.now ∷ [])) }
+{
+    let body = form_of(alloc, body)?;
+    node_of_three(alloc, "let", print_name(alloc, bound)?, value, body)
+}
+
+/// A fold, by the names of an item and of what is built.
+#[cycle(expr_form)]
+fn print_fold(
+    alloc: Global,
+    body: &Boxed<Expr>,
+    names: (&Text, &Text),
+    items: Form,
+    first: Form,
+) -> Result<Form, AllocError>
+    ensures { IfOk result (λ form. form ≡ headed (codes "fold") (Word names.entry.0.now ∷ items
+        ∷ Word names.entry.1.now ∷ first ∷ expr_form body.now ∷ [])) }
+{
+    fold_node(alloc, names, items, first, form_of(alloc, body)?)
 }
 
 /// The tree of a part of an expression.

@@ -27,19 +27,41 @@ pub struct Style {
 /// The greatest column in which parts are aligned with the first one.
 const MOST_ALIGNED: usize = 40;
 
+/// The head words of nodes whose lines take as many parts as fit.
+const FILLED: [&str; 9] = [
+    "list", "tuple", "call", "replies", "prefix", "left", "right", "branches", "suffix",
+];
+
+/// Whether a head word is one of these words.
+fn is_one_of(head: &[u8], words: &[&str]) -> bool {
+    for word in words {
+        if head == word.as_bytes() {
+            return true;
+        }
+    }
+    false
+}
+
 /// Which parts stay on one line, and whether lines begin two columns within the node, not below its first part.
 fn line_rules_of_head(head: &[u8]) -> (Rule, bool) {
-    match head {
-        b"model" | b"model2" => (Rule::Model, true),
-        b"op" => (Rule::Operation, true),
-        b"fun" | b"postfun" => (Rule::First(3), true),
-        b"let" => (Rule::First(2), true),
-        b"for" => (Rule::First(1), true),
-        b"case" | b"run" => (Rule::Item, true),
-        b"fold" => (Rule::First(4), true),
-        b"list" | b"tuple" | b"call" | b"replies" => (Rule::Filled, false),
-        b"prefix" | b"left" | b"right" | b"branches" | b"suffix" => (Rule::Filled, false),
-        _ => (Rule::First(1), false),
+    if is_one_of(head, &["model", "model2"]) {
+        (Rule::Model, true)
+    } else if is_one_of(head, &["op"]) {
+        (Rule::Operation, true)
+    } else if is_one_of(head, &["fun", "postfun"]) {
+        (Rule::First(3), true)
+    } else if is_one_of(head, &["let"]) {
+        (Rule::First(2), true)
+    } else if is_one_of(head, &["for"]) {
+        (Rule::First(1), true)
+    } else if is_one_of(head, &["case", "run"]) {
+        (Rule::Item, true)
+    } else if is_one_of(head, &["fold"]) {
+        (Rule::First(4), true)
+    } else if is_one_of(head, &FILLED) {
+        (Rule::Filled, false)
+    } else {
+        (Rule::First(1), false)
     }
 }
 

@@ -20,6 +20,8 @@ pub struct Pool {
     pub stuck: Vec<BoxedSystem>,
     /// Two systems, each of which answers true only if it is called while the other one is. So one worker alone would fail.
     pub pair: Vec<BoxedSystem>,
+    /// Whether there was no memory for a system.
+    pub lacks_memory: bool,
 }
 
 impl Pool {
@@ -30,7 +32,15 @@ impl Pool {
             registries: Vec::new(alloc),
             stuck: Vec::new(alloc),
             pair: Vec::new(alloc),
+            lacks_memory: false,
         }
+    }
+}
+
+/// Puts a system at the end of the systems, or notes that there is no memory for it.
+pub fn add_system(systems: &mut Vec<BoxedSystem>, lacks_memory: &mut bool, system: BoxedSystem) {
+    if systems.push(system).is_err() {
+        *lacks_memory = true;
     }
 }
 

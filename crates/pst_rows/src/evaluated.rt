@@ -2,6 +2,7 @@
 
 use pst_compile::compile;
 use pst_eval::{Callbacks, Plain};
+use pst_model::Typed;
 use pst_tests::support::typed_of;
 use pst_value::{Fault, Value};
 use std::alloc::{AllocError, Global};
@@ -24,14 +25,24 @@ fn agreed(one: &Outcome, other: &Outcome) -> &'static str {
     }
 }
 
+/// The outcome of the plain evaluator for the initial state.
+fn plain_outcome(alloc: Global, typed: &Typed) -> Result<Outcome, AllocError> {
+    Plain::new(typed).init(alloc)
+}
+
+/// The outcome of compiled code for the initial state, compared with the other one.
+fn compared_with(alloc: Global, typed: Typed, plain: &Outcome) -> Result<&'static str, AllocError> {
+    match compile(alloc, typed) {
+        Ok(compiled) => Ok(agreed(plain, &compiled.init(alloc)?)),
+        Err(_) => Ok("not compiled"),
+    }
+}
+
 /// The outcome of both evaluators for the initial state of the model that a text begins with.
 pub fn outcome_of(alloc: Global, text: &str) -> Result<&'static str, AllocError> {
     let Some(typed) = typed_of(alloc, text) else {
         return Ok("not well typed");
     };
-    let plain = Plain::new(&typed).init(alloc)?;
-    match compile(alloc, typed) {
-        Ok(compiled) => Ok(agreed(&plain, &compiled.init(alloc)?)),
-        Err(_) => Ok("not compiled"),
-    }
+    let plain = plain_outcome(alloc, &typed)?;
+    compared_with(alloc, typed, &plain)
 }

@@ -26,11 +26,9 @@ mod tally;
 mod texts;
 mod words;
 
-use campaigns::Pool;
+use campaigns::{Pool, add_system};
 use folders::ask_all;
 use pst_samples::{Counter, Flags, Pair, Registry, Side, Stuck};
-use pst_system::BoxedSystem;
-use std::alloc::AllocError;
 use std::process::ExitCode;
 use std::sync::Arc;
 use std::thread::Builder;
@@ -38,18 +36,13 @@ use std::thread::Builder;
 /// How many counters there are for all campaigns, how many registries, and how many systems `stuck`.
 const SYSTEMS: u32 = 64;
 
-/// Puts a system into a box, and the box at the end of `$systems`. Without memory the worker ends.
+/// Puts a system into a box, and the box at the end of `$systems`, which are of `$pool`. The pool
+/// notes whether there was no memory.
 macro_rules! add_boxed {
-    ($systems:expr, $alloc:expr, $system:expr) => {
-        let boxed: Result<BoxedSystem, AllocError> = match Box::new($alloc, $system) {
-            Ok(system) => Ok(system),
-            Err(_) => Err(AllocError),
-        };
-        match boxed {
-            Ok(system) => if $systems.push(system).is_err() {
-                return false;
-            },
-            Err(_) => return false,
+    ($pool:expr, $systems:expr, $alloc:expr, $system:expr) => {
+        match Box::new($alloc, $system) {
+            Ok(system) => add_system(&mut $systems, &mut $pool.lacks_memory, system),
+            Err(_) => $pool.lacks_memory = true,
         }
     };
 }
@@ -62,22 +55,22 @@ fn main(rt: HostRuntime) -> ExitCode {
         .stack_size(STACK_BYTES)
         .spawn(&rt, move || -> bool {
             let alloc = rt.alloc();
-            // Boxes of systems are made here, since a contract says nothing of what a function boxes and hands out.
-            let mut pool = Pool::new(alloc);
-            for _ in 0..SYSTEMS {
-                add_boxed!(pool.counters, alloc, Counter::new(rt));
-                add_boxed!(pool.registries, alloc, Registry::new(rt, alloc));
-                add_boxed!(pool.stuck, alloc, Stuck);
-            }
             let Ok(flags) = Arc::new(alloc, Flags::new()) else {
                 return false;
             };
             let Ok(same) = flags.clone() else {
                 return false;
             };
-            add_boxed!(pool.pair, alloc, Pair::new(Side::First, flags));
-            add_boxed!(pool.pair, alloc, Pair::new(Side::Second, same));
-            ask_all(&rt, &mut pool).is_ok()
+            // Boxes of systems are made here, since a contract says nothing of what a function boxes and hands out.
+            let mut pool = Pool::new(alloc);
+            for _ in 0..SYSTEMS {
+                add_boxed!(pool, pool.counters, alloc, Counter::new(rt));
+                add_boxed!(pool, pool.registries, alloc, Registry::new(rt, alloc));
+                add_boxed!(pool, pool.stuck, alloc, Stuck);
+            }
+            add_boxed!(pool, pool.pair, alloc, Pair::new(Side::First, flags));
+            add_boxed!(pool, pool.pair, alloc, Pair::new(Side::Second, same));
+            !pool.lacks_memory && ask_all(&rt, &mut pool).is_ok()
         });
     match worker {
         Ok(worker) => {

@@ -34,6 +34,19 @@ pub enum Question {
     Generate,
 }
 
+/// The question `name` about the items of a text.
+fn question_about_items(name: &str) -> Option<Question> {
+    match name {
+        "runs" => Some(Question::Runs),
+        "write" => Some(Question::Write),
+        "valid" => Some(Question::Valid),
+        "alone" => Some(Question::Alone),
+        "core" => Some(Question::Core),
+        "judge" => Some(Question::Judge),
+        _ => None,
+    }
+}
+
 /// The question `name`.
 pub fn question_named(name: &str) -> Option<Question> {
     match name {
@@ -43,13 +56,7 @@ pub fn question_named(name: &str) -> Option<Question> {
         "print" => Some(Question::Print),
         "list" => Some(Question::List),
         "opening" => Some(Question::Opening),
-        "runs" => Some(Question::Runs),
-        "write" => Some(Question::Write),
-        "valid" => Some(Question::Valid),
-        "alone" => Some(Question::Alone),
-        "core" => Some(Question::Core),
-        "judge" => Some(Question::Judge),
         "generate" => Some(Question::Generate),
-        _ => None,
+        _ => question_about_items(name),
     }
 }

@@ -59,29 +59,46 @@ impl<'a> Request<'a> {
     }
 }
 
+/// The answer to a question on the texts of files, or that there is no such question.
+fn text_answer(alloc: Global, question: &str, request: &Request<'_>) -> Result<String, AllocError> {
+    match question {
+        "message" => message_answer(alloc, request, MessageScope::FirstItem),
+        "message_of_model" => message_answer(alloc, request, MessageScope::Model),
+        "messages" => message_answer(alloc, request, MessageScope::EachItem),
+        "beginnings" => beginnings_answer(alloc, request),
+        "warnings" => warnings_answer(alloc, request),
+        "random" => random_answer(alloc, request),
+        _ => String::from_str(alloc, "there is no such question\n"),
+    }
+}
+
+/// The answer to a question whose items are judged in threads, or to one on the texts of files.
+fn judged_answer<R: Threads + Sync>(
+    rt: &R,
+    alloc: Global,
+    question: &str,
+    request: &Request<'_>,
+) -> Result<String, AllocError> {
+    match question {
+        "explain" => explain_answer(rt, alloc, request),
+        "graph" => graph_answer(rt, alloc, request),
+        "longest" => longest_answer(rt, alloc, request),
+        "comments" => comments_answer(rt, alloc, request),
+        "warnings_on_runs" => item_warnings_answer(rt, alloc, request, false),
+        "warnings_on_answers" => item_warnings_answer(rt, alloc, request, true),
+        _ => text_answer(alloc, question, request),
+    }
+}
+
 /// The answer to a request.
 pub fn answer_to_request<R: Threads + Wait + Sync + AllocGlobal>(
     rt: &R,
     pool: &mut Pool,
     request: &Request<'_>,
 ) -> anyhow::Result<String> {
-    let alloc = rt.alloc();
     let question = request.line.split(' ').next().unwrap_or("");
-    let answer = match question {
-        "explain" => explain_answer(rt, alloc, request)?,
-        "graph" => graph_answer(rt, alloc, request)?,
-        "longest" => longest_answer(rt, alloc, request)?,
-        "comments" => comments_answer(rt, alloc, request)?,
-        "message" => message_answer(alloc, request, MessageScope::FirstItem)?,
-        "message_of_model" => message_answer(alloc, request, MessageScope::Model)?,
-        "messages" => message_answer(alloc, request, MessageScope::EachItem)?,
-        "beginnings" => beginnings_answer(alloc, request)?,
-        "warnings" => warnings_answer(alloc, request)?,
-        "warnings_on_runs" => item_warnings_answer(rt, alloc, request, false)?,
-        "warnings_on_answers" => item_warnings_answer(rt, alloc, request, true)?,
-        "random" => random_answer(alloc, request)?,
-        "campaign" => campaign_answer(rt, pool, request)?,
-        _ => String::from_str(alloc, "there is no such question\n")?,
-    };
-    Ok(answer)
+    if question == "campaign" {
+        return campaign_answer(rt, pool, request);
+    }
+    Ok(judged_answer(rt, rt.alloc(), question, request)?)
 }

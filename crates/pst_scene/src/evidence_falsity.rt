@@ -50,6 +50,26 @@ fn says_more_than_whole(found: &FalsePart<'_>) -> bool {
     !matches!(found.part, Expr::Bool(_)) || !matches!(found.evidence, Evidence::Nothing)
 }
 
+/// The operands of a comparison or of its negation, if the expression is one.
+fn compared_operands(expr: &Expr) -> Option<(&Expr, &Expr)> {
+    let Expr::Binary(operator, first, second) = expression_without_negation(expr) else {
+        return None;
+    };
+    if is_comparison(*operator) {
+        Some((first.get(), second.get()))
+    } else {
+        None
+    }
+}
+
+/// The evidence that two values are compared, if both operands have one.
+fn evidence_of_compared_values(first: Option<Value>, second: Option<Value>) -> Evidence {
+    match (first, second) {
+        (Some(first), Some(second)) => Evidence::Compares(first, second),
+        _ => Evidence::Nothing,
+    }
+}
+
 /// The values that a comparison or its negation compares, if the expression is one.
 fn compared_values(
     alloc: Global,
@@ -57,18 +77,12 @@ fn compared_values(
     expr: &Expr,
     env: &Env<'_>,
 ) -> Result<Evidence, AllocError> {
-    let Expr::Binary(operator, first, second) = expression_without_negation(expr) else {
+    let Some((first, second)) = compared_operands(expr) else {
         return Ok(Evidence::Nothing);
     };
-    if !is_comparison(*operator) {
-        return Ok(Evidence::Nothing);
-    }
-    let first = value_of_expression_in_environment(alloc, model, first.get(), env)?;
-    let second = value_of_expression_in_environment(alloc, model, second.get(), env)?;
-    match (first, second) {
-        (Some(first), Some(second)) => Ok(Evidence::Compares(first, second)),
-        _ => Ok(Evidence::Nothing),
-    }
+    let first = value_of_expression_in_environment(alloc, model, first, env)?;
+    let second = value_of_expression_in_environment(alloc, model, second, env)?;
+    Ok(evidence_of_compared_values(first, second))
 }
 
 /// The expression itself, with what is known of it.

@@ -139,21 +139,14 @@ impl Page {
         Ok(indent.saturating_add(word.len()).max(1))
     }
 
-    /// Adds the words of a sentence, with a new line before each that does not fit. The first line is indented by
-    /// `first` spaces and the others by `later`.
-    fn add_words(
+    /// Adds the words of a sentence that does not fit on one line, as `add_words` does.
+    fn add_words_on_lines(
         &mut self,
         alloc: Global,
         first: usize,
         later: usize,
         sentence: &[u8],
     ) -> Result<(), AllocError> {
-        if self.has_room(first, sentence) {
-            self.add_spaces(first)?;
-            self.text.extend_from_slice(sentence)?;
-            self.text.push(b'\n')?;
-            return Ok(());
-        }
         let mut column = 0usize;
         let mut word = Vec::new(alloc);
         for byte in sentence {
@@ -169,6 +162,24 @@ impl Page {
         self.add_word(alloc, indent, column, word.as_slice())?;
         self.text.push(b'\n')?;
         Ok(())
+    }
+
+    /// Adds the words of a sentence, with a new line before each that does not fit. The first line is indented by
+    /// `first` spaces and the others by `later`.
+    fn add_words(
+        &mut self,
+        alloc: Global,
+        first: usize,
+        later: usize,
+        sentence: &[u8],
+    ) -> Result<(), AllocError> {
+        if self.has_room(first, sentence) {
+            self.add_spaces(first)?;
+            self.text.extend_from_slice(sentence)?;
+            self.text.push(b'\n')?;
+            return Ok(());
+        }
+        self.add_words_on_lines(alloc, first, later, sentence)
     }
 
     /// Adds a sentence that is indented by `indent` spaces, with a new line before each word that does not fit.

@@ -1,13 +1,14 @@
 //! The part of an expression that decides its outcome, among the parts that see the names that it sees itself.
 
-ghost use Rattle.std.specs.Prelude.{IfOk, MatchOption};
-ghost use Rattle.pst_eval.specs.Env.{env_of};
+ghost use Rattle.std.specs.Prelude.{◌≡◌, IfOk, MatchOption};
+ghost use Rattle.pst_eval.specs.Env.{env_of, mean_in};
+ghost use Rattle.pst_operators.specs.Outcome.{Faults};
 ghost use Rattle.pst_scene.specs.Parts.{Decides};
 
 use crate::attempt::{Tried, TriedAll, try_evaluate, try_evaluate_all};
 use pst_eval::{Context, Env};
 use pst_model::Expr;
-use pst_value::Value;
+use pst_value::{Fault, Value};
 use std::alloc::AllocError;
 
 /// A part, and how many turns are left when it begins.
@@ -34,6 +35,22 @@ fn deciding_part_of_if<'a>(
     }
 }
 
+/// The fault of an operand, if it faults.
+fn fault_of_operand(
+    operand: &Expr,
+    context: &Context<'_>,
+    env: &Env<'_>,
+    turns: u32,
+) -> Result<Option<Fault>, AllocError>
+    ensures { IfOk result (λ r. MatchOption r (Unit {0})
+        (λ why. mean_in context.now operand.now (env_of env.now) turns ≡ Faults why)) }
+{
+    match try_evaluate(operand, context, env, turns)? {
+        Tried::Faults(fault) => Ok(Some(fault)),
+        _ => Ok(None),
+    }
+}
+
 /// The operand of an `and` that faults.
 fn faulty_part_of_and<'a>(
     expr: &'a Expr,
@@ -47,15 +64,14 @@ fn faulty_part_of_and<'a>(
     let Expr::And(first, second) = expr else {
         return Ok(None);
     };
-    match try_evaluate(first.get(), context, env, turns)? {
-        Tried::Faults(_) => Ok(Some((first.get(), turns))),
-        Tried::Gives(Value::Bool(true), left) => {
-            match try_evaluate(second.get(), context, env, left)? {
-                Tried::Faults(_) => Ok(Some((second.get(), left))),
-                _ => Ok(None),
-            }
-        }
-        _ => Ok(None),
+    let left = match try_evaluate(first.get(), context, env, turns)? {
+        Tried::Faults(_) => return Ok(Some((first.get(), turns))),
+        Tried::Gives(Value::Bool(true), left) => left,
+        _ => return Ok(None),
+    };
+    match fault_of_operand(second.get(), context, env, left)? {
+        Some(_) => Ok(Some((second.get(), left))),
+        None => Ok(None),
     }
 }
 
@@ -72,15 +88,14 @@ fn faulty_part_of_or<'a>(
     let Expr::Or(first, second) = expr else {
         return Ok(None);
     };
-    match try_evaluate(first.get(), context, env, turns)? {
-        Tried::Faults(_) => Ok(Some((first.get(), turns))),
-        Tried::Gives(Value::Bool(false), left) => {
-            match try_evaluate(second.get(), context, env, left)? {
-                Tried::Faults(_) => Ok(Some((second.get(), left))),
-                _ => Ok(None),
-            }
-        }
-        _ => Ok(None),
+    let left = match try_evaluate(first.get(), context, env, turns)? {
+        Tried::Faults(_) => return Ok(Some((first.get(), turns))),
+        Tried::Gives(Value::Bool(false), left) => left,
+        _ => return Ok(None),
+    };
+    match fault_of_operand(second.get(), context, env, left)? {
+        Some(_) => Ok(Some((second.get(), left))),
+        None => Ok(None),
     }
 }
 

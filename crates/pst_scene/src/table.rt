@@ -124,6 +124,27 @@ fn room_for_table_columns(page: &Page, indent: usize, columns: usize) -> usize {
     page.width.saturating_sub(indent).saturating_sub(gaps)
 }
 
+/// Begins the line of a row on a page, after the end of the line before if there is one.
+fn begin_row(page: &mut Page, indent: usize, is_first: bool) -> Result<(), AllocError> {
+    if !is_first {
+        page.text.push(b'\n')?;
+    }
+    page.add_spaces(indent)
+}
+
+/// Adds the text of a cell to a page after `gap` spaces, cut to `width`, and returns how many bytes of it there are.
+fn add_cell_text(
+    page: &mut Page,
+    alloc: Global,
+    gap: usize,
+    style: Style,
+    text: &[u8],
+    width: usize,
+) -> Result<usize, AllocError> {
+    page.add_spaces(gap)?;
+    page.add_cut(alloc, style, text, width)
+}
+
 impl Table {
     /// No rows.
     pub fn new(alloc: Global) -> Result<Table, AllocError> {
@@ -241,18 +262,15 @@ impl Table {
         let mut wanted = 0usize;
         for (index, cell) in self.cells.iter().enumerate() {
             if cell.column == 0 {
-                if index > 0 {
-                    page.text.push(b'\n')?;
-                }
-                page.add_spaces(indent)?;
+                begin_row(page, indent, index == 0)?;
                 column = 0;
                 wanted = 0;
             }
             let text = self.text_of_cell(begin, cell);
             let width = widths.get(cell.column).copied().unwrap_or(0);
             if !text.is_empty() {
-                page.add_spaces(wanted.saturating_sub(column))?;
-                let count = page.add_cut(alloc, cell.style, text, width)?;
+                let gap = wanted.saturating_sub(column);
+                let count = add_cell_text(page, alloc, gap, cell.style, text, width)?;
                 column = wanted.saturating_add(count);
             }
             wanted = wanted.saturating_add(width).saturating_add(GAP);

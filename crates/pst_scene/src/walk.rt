@@ -11,6 +11,7 @@ use pst_model::{Expr, initial_state_of};
 use pst_operators::Stop;
 use pst_value::{Boxed, Fault, Items, Value};
 use std::alloc::{AllocError, Global};
+use std::mem;
 
 /// The result of a precondition.
 #[derive(Clone, Copy, Debug, PartialEq, Eq, Drop)]
@@ -77,6 +78,40 @@ pub fn state_after_call(
     Ok(outcome.ok())
 }
 
+/// Moves `state` to the end of `states` and puts the state after a command in its place. Leaves both and returns
+/// `false` if the callback faults.
+fn advance_state(
+    alloc: Global,
+    scene: &Scene<'_>,
+    states: &mut Vec<Value>,
+    state: &mut Value,
+    call: &Call<'_>,
+) -> Result<bool, AllocError> {
+    let Some(next) = state_after_call(alloc, scene, &*state, call)? else {
+        return Ok(false);
+    };
+    states.push(mem::replace(state, next))?;
+    Ok(true)
+}
+
+/// Adds `first` and the state after each command in turn from it, up to the first callback that faults.
+fn add_states_along_calls(
+    alloc: Global,
+    scene: &Scene<'_>,
+    states: &mut Vec<Value>,
+    first: Value,
+    calls: &[Call<'_>],
+) -> Result<(), AllocError> {
+    let mut state = first;
+    for call in calls {
+        if !advance_state(alloc, scene, states, &mut state, call)? {
+            break;
+        }
+    }
+    states.push(state)?;
+    Ok(())
+}
+
 /// Returns the initial state and the state after each command in turn, up to the first callback that faults.
 pub fn states_along_calls(
     alloc: Global,
@@ -84,17 +119,9 @@ pub fn states_along_calls(
     calls: &[Call<'_>],
 ) -> Result<Vec<Value>, AllocError> {
     let mut states = Vec::new(alloc);
-    let Some(mut state) = initial_state(alloc, scene)? else {
-        return Ok(states);
-    };
-    for call in calls {
-        let Some(next) = state_after_call(alloc, scene, &state, call)? else {
-            break;
-        };
-        states.push(state)?;
-        state = next;
+    if let Some(first) = initial_state(alloc, scene)? {
+        add_states_along_calls(alloc, scene, &mut states, first, calls)?;
     }
-    states.push(state)?;
     Ok(states)
 }
 
@@ -125,6 +152,15 @@ pub fn state_before_call_in_interleaving(
     Ok(states.pop())
 }
 
+/// Returns the result of a precondition, by its value or why it has none.
+fn answer_of_precondition(outcome: &Result<Value, Stop>) -> PreAnswer {
+    match outcome {
+        Ok(Value::Bool(false)) => PreAnswer::Fails,
+        Err(Stop::Fault(fault)) => PreAnswer::Faults(*fault),
+        _ => PreAnswer::Holds,
+    }
+}
+
 /// Returns the result of the precondition of a command on `state`.
 pub fn evaluate_precondition(
     alloc: Global,
@@ -141,9 +177,6 @@ pub fn evaluate_precondition(
     let args = recorded_arguments(alloc, scene, call)?;
     let frame = Env::Frame(operation.params.as_slice(), args.as_slice());
     let env = Env::With(b"s", &*state, &frame);
-    match evaluate(alloc, scene.model, &operation.pre, &env)? {
-        Ok(Value::Bool(false)) => Ok(PreAnswer::Fails),
-        Err(Stop::Fault(fault)) => Ok(PreAnswer::Faults(fault)),
-        _ => Ok(PreAnswer::Holds),
-    }
+    let outcome = evaluate(alloc, scene.model, &operation.pre, &env)?;
+    Ok(answer_of_precondition(&outcome))
 }

@@ -297,16 +297,17 @@ fn binary_operator_type_problem(leaf: &BlamedPart<'_>, head: &str) -> FoundProbl
     }
 }
 
+/// Whether an operator takes only ints.
+fn takes_only_ints(head: &str) -> bool {
+    matches!(head, "+" | "-" | "*" | "div" | "rem" | "range")
+}
+
 /// What is wrong with an operator, by its head.
 fn operator_type_problem(leaf: &BlamedPart<'_>, head: &str) -> FoundProblem {
     match head {
         "and" | "or" | "not" => first_ill_typed_part_problem(leaf, head, &Ty::Bool),
-        "+" | "-" | "*" | "div" | "rem" | "range" => first_ill_typed_part_problem(
-            leaf,
-            head,
-            &Ty::Int,
-        ),
         "len" | "++" => sequence_type_problem(leaf, head),
+        _ if takes_only_ints(head) => first_ill_typed_part_problem(leaf, head, &Ty::Int),
         _ => binary_operator_type_problem(leaf, head),
     }
 }

@@ -14,25 +14,54 @@ use pst_typing::{Kind, KindForm};
 use pst_value::Ty;
 use std::alloc::AllocError;
 
-/// The problem of an `nth`, if it has one.
-pub fn nth_type_problem(leaf: &BlamedPart<'_>, list: &Kind, place: &Kind) -> FoundProblem {
-    match (list.form(leaf.alloc)?, place.form(leaf.alloc)?) {
-        (KindForm::List(_), _) => {
-            let int = Kind::of(leaf.alloc, &Ty::Int)?;
-            operand_type_problem(leaf, "`nth`", 2, &int, place)
-        }
-        (KindForm::Int, KindForm::List(_)) => problem_with_note(
-            leaf.alloc,
-            leaf.path,
-            "`nth` takes a list and a place, found int and a list",
-            "hint: in the other order the two fit: `(nth LIST PLACE)`",
-        ),
-        (KindForm::Tuple(_), _) => {
-            let refused = list_wanted_problem(leaf.alloc, leaf.path, "`nth`", 1, list)?;
-            with_item_access_hint(leaf.alloc, refused, list)
-        }
+/// The problem of the place of an `nth` in a list, if it is no int.
+fn nth_place_type_problem(leaf: &BlamedPart<'_>, place: &Kind) -> FoundProblem {
+    let int = Kind::of(leaf.alloc, &Ty::Int)?;
+    operand_type_problem(leaf, "`nth`", 2, &int, place)
+}
+
+/// The problem of an `nth` whose place comes before its list.
+fn nth_order_problem(leaf: &BlamedPart<'_>) -> FoundProblem {
+    problem_with_note(
+        leaf.alloc,
+        leaf.path,
+        "`nth` takes a list and a place, found int and a list",
+        "hint: in the other order the two fit: `(nth LIST PLACE)`",
+    )
+}
+
+/// The problem of an `nth` of a tuple.
+fn nth_of_tuple_problem(leaf: &BlamedPart<'_>, tuple: &Kind) -> FoundProblem {
+    let refused = list_wanted_problem(leaf.alloc, leaf.path, "`nth`", 1, tuple)?;
+    with_item_access_hint(leaf.alloc, refused, tuple)
+}
+
+/// Whether a type is that of lists.
+fn is_list_type(leaf: &BlamedPart<'_>, kind: &Kind) -> Result<bool, AllocError> {
+    Ok(matches!(kind.form(leaf.alloc)?, KindForm::List(_)))
+}
+
+/// The problem of an `nth` whose first part has a type of the form `form`, if it has one.
+fn nth_type_problem_by_form(
+    leaf: &BlamedPart<'_>,
+    form: &KindForm,
+    list: &Kind,
+    place: &Kind,
+    has_list_as_place: bool,
+) -> FoundProblem {
+    match form {
+        KindForm::List(_) => nth_place_type_problem(leaf, place),
+        KindForm::Int if has_list_as_place => nth_order_problem(leaf),
+        KindForm::Tuple(_) => nth_of_tuple_problem(leaf, list),
         _ => list_wanted_problem(leaf.alloc, leaf.path, "`nth`", 1, list),
     }
+}
+
+/// The problem of an `nth`, if it has one.
+pub fn nth_type_problem(leaf: &BlamedPart<'_>, list: &Kind, place: &Kind) -> FoundProblem {
+    let form = list.form(leaf.alloc)?;
+    let has_list_as_place = is_list_type(leaf, place)?;
+    nth_type_problem_by_form(leaf, &form, list, place, has_list_as_place)
 }
 
 /// The problem of an item of a list that has the type `found` instead of `wanted`. `part` is its number in the tree.

@@ -166,21 +166,27 @@ pub fn list_wanted_problem(
     with_map_keys_hint(alloc, refused, found)
 }
 
-/// The problem of a form of maps whose first part is no map.
-pub fn map_wanted_problem(leaf: &BlamedPart<'_>, head: &str, found: &Kind) -> FoundProblem {
-    let is_second = match leaf.kinds.get(1) {
-        Some(second) => matches!(second.form(leaf.alloc)?, KindForm::Map(_, _)),
-        None => false,
-    };
-    if !is_second {
-        let what = format_args!("`{head}`: expected a map");
-        let refused = first_operand_problem(leaf, what, found)?;
-        return if head == "get" {
-            with_item_access_hint(leaf.alloc, refused, found)
-        } else {
-            Ok(refused)
-        };
+/// Whether the second part is a map.
+fn is_second_operand_map(leaf: &BlamedPart<'_>) -> Result<bool, AllocError> {
+    match leaf.kinds.get(1) {
+        Some(second) => Ok(matches!(second.form(leaf.alloc)?, KindForm::Map(_, _))),
+        None => Ok(false),
     }
+}
+
+/// The problem of a form of maps whose first part and second part are no maps.
+fn missing_map_problem(leaf: &BlamedPart<'_>, head: &str, found: &Kind) -> FoundProblem {
+    let what = format_args!("`{head}`: expected a map");
+    let refused = first_operand_problem(leaf, what, found)?;
+    if head == "get" {
+        with_item_access_hint(leaf.alloc, refused, found)
+    } else {
+        Ok(refused)
+    }
+}
+
+/// The problem of a form of maps whose second part is a map, and the first is none.
+fn map_order_problem(leaf: &BlamedPart<'_>, head: &str, found: &Kind) -> FoundProblem {
     let found = type_text_of_kind(leaf.alloc, found)?;
     problem_with_note(
         leaf.alloc,
@@ -188,4 +194,13 @@ pub fn map_wanted_problem(leaf: &BlamedPart<'_>, head: &str, found: &Kind) -> Fo
         format_args!("`{head}` takes the map first, found {found}"),
         "hint: in the other order the two may fit",
     )
+}
+
+/// The problem of a form of maps whose first part is no map.
+pub fn map_wanted_problem(leaf: &BlamedPart<'_>, head: &str, found: &Kind) -> FoundProblem {
+    if is_second_operand_map(leaf)? {
+        map_order_problem(leaf, head, found)
+    } else {
+        missing_map_problem(leaf, head, found)
+    }
 }

@@ -25,6 +25,26 @@ pub fn clause_iterates_over_list(clause: &Form) -> bool {
     head_word_or_empty(clause) == "in"
 }
 
+/// The body of the callback `word`, if the tree is this callback.
+fn callback_body_in_tree<'a>(form: &'a Form, word: &str) -> Option<&'a Form> {
+    match node_of(form)? {
+        [_, body] if head_word_or_empty(form) == word => Some(body),
+        _ => None,
+    }
+}
+
+/// The number and the body of the callback `word` among the parts of an operation.
+pub fn find_callback_body<'a>(form: &'a Form, word: &str) -> Option<(usize, &'a Form)> {
+    for (number, part) in node_of(form)?.iter().enumerate() {
+        if number >= 4 {
+            if let Some(body) = callback_body_in_tree(part, word) {
+                return Some((number, body));
+            }
+        }
+    }
+    None
+}
+
 /// Goes from a tree to tree `number` in it: extends `path`, and returns that tree.
 fn enter_tree<'a>(
     path: &mut Vec<usize>,

@@ -2,10 +2,10 @@
 
 use crate::diagnose::{BlamedPart, diagnose_blamed_part};
 use crate::operands::expected_type_problem;
-use crate::trees::{enter_expression_part, tree_part_or_whole};
+use crate::trees::{enter_expression_part, find_callback_body, tree_part_or_whole};
 use crate::walk::{expression_part_at_path_with_names, scope_names};
 use pst_model::{Expr, Fun, Item, Op, Source, state_of};
-use pst_sexpr::{Form, node_of};
+use pst_sexpr::Form;
 use pst_syntax_problems::{
     FoundProblem, MOST_PROBLEMS, Problem, head_word_or_empty, problem_at, problem_with_note,
     push_problem_if_any, with_note,
@@ -128,26 +128,6 @@ fn context_with_all_items(here: ItemSite<'_>, is_post: bool) -> Context<'_> {
         earlier: here.items,
         is_post,
     }
-}
-
-/// The body of the callback `word`, if the tree is this callback.
-fn callback_body_in_tree<'a>(form: &'a Form, word: &str) -> Option<&'a Form> {
-    match node_of(form)? {
-        [_, body] if head_word_or_empty(form) == word => Some(body),
-        _ => None,
-    }
-}
-
-/// The number and the body of the callback `word` among the parts of an operation.
-fn find_callback_body<'a>(form: &'a Form, word: &str) -> Option<(usize, &'a Form)> {
-    for (number, part) in node_of(form)?.iter().enumerate() {
-        if number >= 4 {
-            if let Some(body) = callback_body_in_tree(part, word) {
-                return Some((number, body));
-            }
-        }
-    }
-    None
 }
 
 /// Adds what is wrong with the callback `word`.
@@ -346,6 +326,50 @@ fn add_item_type_problems(
     }
 }
 
+/// Adds the problem that item `number` in the tree of the model is not well typed, if there are no others.
+fn add_item_problem_if_none(
+    problems: &mut Vec<Problem>,
+    alloc: Global,
+    number: usize,
+) -> Result<(), AllocError> {
+    if problems.is_empty() {
+        let problem = problem_at(alloc, &[0, number], "the item is not well typed")?;
+        push_problem_if_any(problems, problem)?;
+    }
+    Ok(())
+}
+
+/// Adds the problems of item `number` and of the items after it, as `type_problems_from_item_on` says.
+fn add_type_problems_from_item_on(
+    problems: &mut Vec<Problem>,
+    alloc: Global,
+    source: &Source,
+    state: &Kind,
+    model: &Form,
+    number: usize,
+) -> Result<(), AllocError> {
+    let items = source.items.as_slice();
+    for (index, item) in items.iter().enumerate() {
+        let place = index.saturating_add(2);
+        let is_first = index.saturating_add(1) == number;
+        if index.saturating_add(1) >= number && problems.len() <= MOST_PROBLEMS {
+            let here = ItemSite {
+                alloc,
+                items,
+                state,
+                form: tree_part_or_whole(model, place),
+                number: place,
+                has_maps: source.has_maps,
+            };
+            add_item_type_problems(problems, item, here)?;
+        }
+        if is_first {
+            add_item_problem_if_none(problems, alloc, place)?;
+        }
+    }
+    Ok(())
+}
+
 /// The problems of item `number`, counted from 1, of a model that is not well typed, and of the items after it. The
 /// problem that the model is refused for comes first. Each is independent of the others, because functions and
 /// operations are used by the types that they declare. Once there are more than `MOST_PROBLEMS` problems, the items
@@ -357,31 +381,9 @@ pub fn type_problems_from_item_on(
     number: usize,
 ) -> Result<Vec<Problem>, AllocError> {
     let mut problems = Vec::new(alloc);
-    let items = source.items.as_slice();
-    let Some(state) = state_of(items) else {
-        return Ok(problems);
-    };
-    let state = Kind::of(alloc, state)?;
-    for (index, item) in items.iter().enumerate() {
-        let place = index.saturating_add(2);
-        let is_first = index.saturating_add(1) == number;
-        if index.saturating_add(1) >= number && problems.len() <= MOST_PROBLEMS {
-            let here = ItemSite {
-                alloc,
-                items,
-                state: &state,
-                form: tree_part_or_whole(model, place),
-                number: place,
-                has_maps: source.has_maps,
-            };
-            add_item_type_problems(&mut problems, item, here)?;
-        }
-        if is_first && problems.is_empty() {
-            push_problem_if_any(
-                &mut problems,
-                problem_at(alloc, &[0, place], "the item is not well typed")?,
-            )?;
-        }
+    if let Some(state) = state_of(source.items.as_slice()) {
+        let state = Kind::of(alloc, state)?;
+        add_type_problems_from_item_on(&mut problems, alloc, source, &state, model, number)?;
     }
     Ok(problems)
 }

@@ -59,23 +59,32 @@ fn comprehension_part_with_names<'a>(
     Ok(body)
 }
 
+/// Part `part` of three, counted from 0. The third has each greater number.
+fn part_of_three<'a>(part: usize, first: &'a Expr, second: &'a Expr, third: &'a Expr) -> &'a Expr {
+    match part {
+        0 => first,
+        1 => second,
+        _ => third,
+    }
+}
+
+/// Part `part` of two, counted from 0. The second has each greater number.
+fn part_of_two<'a>(part: usize, first: &'a Expr, second: &'a Expr) -> &'a Expr {
+    if part == 0 { first } else { second }
+}
+
 /// Part `part` of an expression whose parts see no further names.
 fn part_of_nonbinding_expression(expr: &Expr, part: usize) -> &Expr {
-    match (expr, part) {
-        (Expr::If(first, _, _) | Expr::Put(first, _, _), 0) => first.get(),
-        (Expr::If(_, second, _) | Expr::Put(_, second, _), 1) => second.get(),
-        (Expr::If(_, _, third) | Expr::Put(_, _, third), _) => third.get(),
-        (Expr::And(first, _) | Expr::Or(first, _) | Expr::Binary(_, first, _), 0) => first.get(),
-        (Expr::And(_, second) | Expr::Or(_, second) | Expr::Binary(_, _, second), _) =>
-            second.get(),
-        (Expr::Unary(_, operand) | Expr::At(operand, _), _) => operand.get(),
-        (
-            Expr::Tuple(exprs)
-            | Expr::List(_, exprs)
-            | Expr::Call(_, exprs)
-            | Expr::Apply(_, exprs),
-            _,
-        ) => expression_part_or_whole(expr, exprs, part),
+    match expr {
+        Expr::If(first, second, third) | Expr::Put(first, second, third) => {
+            part_of_three(part, first.get(), second.get(), third.get())
+        }
+        Expr::And(first, second) | Expr::Or(first, second) | Expr::Binary(_, first, second) => {
+            part_of_two(part, first.get(), second.get())
+        }
+        Expr::Unary(_, operand) | Expr::At(operand, _) => operand.get(),
+        Expr::Tuple(exprs) | Expr::List(_, exprs) | Expr::Call(_, exprs) | Expr::Apply(_, exprs) =>
+            expression_part_or_whole(expr, exprs, part),
         _ => expr,
     }
 }

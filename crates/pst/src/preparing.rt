@@ -1,0 +1,70 @@
+//! What a command has before its systems are made: its input, and places for what clients and systems do wrong.
+
+use crate::clients::{SharedClientNotes, empty_client_notes};
+use crate::overheard::{SharedMisfits, empty_misfits_if_run_is_not_quiet};
+use crate::reading::{InputFiles, check_and_read_input_or_run_fmt};
+use crate::refused;
+use crate::terminal::Terminals;
+use clap::ArgMatches;
+use pst_cli::Status;
+use pst_sources::{Input, SourceFile, joined};
+use std::alloc::{AllocError, Global};
+use std::rt::Runtime;
+
+/// The input of a command, the notes of its clients, and the misfits of its systems.
+#[derive(Drop)]
+pub struct PreparedInput<'a> {
+    files: InputFiles<'a>,
+    /// The text of the files, with a tree in place of each JSON item.
+    text: Vec<u8>,
+    /// The notes of all clients.
+    pub notes: SharedClientNotes,
+    /// The list of answers of a wrong type, if it is kept.
+    pub misfits: Option<SharedMisfits>,
+}
+
+impl<'a> PreparedInput<'a> {
+    /// The files as they were read.
+    pub fn files(&self) -> &[SourceFile<'a>] {
+        self.files.as_read()
+    }
+
+    /// The input with a tree in place of each JSON item.
+    pub fn input(&self) -> Input<'_> {
+        Input {
+            files: self.files.as_trees(),
+            bytes: self.text.as_slice(),
+        }
+    }
+}
+
+/// Returns the files with their text, and with empty lists of notes and misfits.
+fn prepared_input_from_files<'a>(
+    alloc: Global,
+    matches: &ArgMatches<'_>,
+    files: InputFiles<'a>,
+) -> Result<PreparedInput<'a>, AllocError> {
+    let text = joined(alloc, files.as_trees())?;
+    let notes = empty_client_notes(alloc)?;
+    let misfits = empty_misfits_if_run_is_not_quiet(alloc, matches);
+    Ok(PreparedInput {
+        files,
+        text,
+        notes,
+        misfits,
+    })
+}
+
+/// Reads the files that the arguments name, and prepares their input. If that fails, or the arguments are refused, or
+/// files are only laid out, the error is the status that the program ends with.
+pub fn prepare_input_or_run_fmt<'a, R: Runtime + AllocGlobal>(
+    rt: &R,
+    matches: &'a ArgMatches<'_>,
+    terminals: Terminals,
+) -> Result<PreparedInput<'a>, Status> {
+    let files = check_and_read_input_or_run_fmt(rt, matches, terminals)?;
+    match prepared_input_from_files(rt.alloc(), matches, files) {
+        Ok(prepared) => Ok(prepared),
+        Err(AllocError) => Err(refused::report_out_of_memory(rt)),
+    }
+}
