@@ -15,7 +15,7 @@ use std::alloc::{AllocError, Global};
 /// What an explanation says in place of the states before a failure, if their search takes too many steps.
 const NO_WALK: &str = "The states before it are left out: their search takes too many steps.";
 
-/// Adds a row of a name and its value.
+/// Adds a row with a name and its value.
 fn add_name_and_value_row(
     table: &mut Table,
     alloc: Global,

@@ -88,7 +88,7 @@ fn print_run<R: Threads + Wait + Print + AllocGlobal>(
     print_answer(rt, name, status, short)
 }
 
-/// A case whose prefix is a call of `operation`, which asks for the answer `name`.
+/// A case whose prefix calls `operation` with the name of an answer.
 fn case_of(alloc: Global, operation: &str, name: &str) -> Result<String, AllocError> {
     format!(in alloc; "(case (prefix ({operation} \"{name}\")) (left) (right))")
 }

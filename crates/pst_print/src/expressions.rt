@@ -199,7 +199,7 @@ fn print_third(
     node_of_three(alloc, head, first, second, form_of(alloc, third)?)
 }
 
-/// A name that stands for a value in a body.
+/// A `let`: a name, its value and a body.
 #[cycle(expr_form)]
 fn print_let(
     alloc: Global,
