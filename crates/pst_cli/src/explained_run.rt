@@ -45,11 +45,11 @@ pub(crate) fn run_of_case_and_history(
 }
 
 /// Explains why no interleaving explains a judged run. Returns `None` if the run is explained.
-fn explanation_of_judged_run_unless_explained(
+fn explanation_of_judged_run_unless_explained<'a>(
     alloc: Global,
-    compiled: &Compiled,
-    run: &Run,
-    judged: &Judged,
+    compiled: &'a Compiled,
+    run: &'a Run,
+    judged: &'a Judged,
     width: usize,
 ) -> Result<Option<Vec<u8>>, AllocError>
     requires lawful { IsLawful compiled.now run.now }
