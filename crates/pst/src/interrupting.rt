@@ -7,7 +7,7 @@ use std::alloc::{AllocError, Global};
 use std::rt::Files;
 use std::sync::atomic::{AtomicBool, Ordering};
 use std::sync::{Arc, Wait};
-use std::thread::{Builder, JoinHandle, Parker, Threads};
+use std::thread::{JoinHandle, Parker, Threads};
 use std::time::Duration;
 
 /// How many milliseconds pass between two looks.
@@ -15,7 +15,7 @@ const PAUSE: u64 = 100;
 
 /// What the thread that looks for the file shares with the one that ends it.
 #[derive(Drop)]
-struct StopFileState {
+pub struct StopFileState {
     name: String,
     has_appeared: Arc<AtomicBool>,
     is_over: AtomicBool,
@@ -23,7 +23,7 @@ struct StopFileState {
 }
 
 /// Looks for the file until it is there or the campaign is over.
-fn watch_for_stop_file<R: Wait + Files>(rt: &R, watched: &StopFileState) {
+pub fn watch_for_stop_file<R: Wait + Files>(rt: &R, watched: &StopFileState) {
     for _ in rt.forever() {
         if input::can_be_opened(rt, watched.name.as_str()) {
             watched.has_appeared.store(true, Ordering::SeqCst);
@@ -66,22 +66,30 @@ pub fn flag_whether_stop_file_is_there<R: Files>(
     Ok(Some(Arc::new(alloc, AtomicBool::new(is_there))?))
 }
 
-/// What the thread that looks for the file shares, if the arguments name a file.
-fn stop_file_state_from_arguments(
+/// Returns what the campaign and the thread that looks for the file share, once for each of them, if the arguments
+/// name a file.
+pub fn stop_file_state_for_campaign_and_thread(
     alloc: Global,
     matches: &ArgMatches<'_>,
-    has_appeared: &Arc<AtomicBool>,
-) -> Option<Arc<StopFileState, Global>> {
+    has_appeared: &Option<Arc<AtomicBool>>,
+) -> Option<(Arc<StopFileState, Global>, Arc<StopFileState, Global>)> {
     let watched = StopFileState {
         name: String::from_str(alloc, stop_file_name_from_arguments(matches)?).ok()?,
-        has_appeared: Arc::try_clone(has_appeared).ok()?,
+        has_appeared: Arc::try_clone(has_appeared.as_ref()?).ok()?,
         is_over: AtomicBool::new(false),
         parker: Parker::new(),
     };
-    Arc::new(alloc, watched).ok()
+    let watched = Arc::new(alloc, watched).ok()?;
+    let own = Arc::try_clone(&watched).ok()?;
+    Some((watched, own))
 }
 
 impl StopFileWatch {
+    /// The thread that looks for the file, which `main` starts: only there is the handle known that it takes along.
+    pub fn new(watched: Arc<StopFileState, Global>, thread: JoinHandle<()>) -> StopFileWatch {
+        StopFileWatch { watched, thread }
+    }
+
     /// Ends the thread, and waits for it.
     pub fn end<R: Threads + Wait>(self, rt: &R) {
         let StopFileWatch { watched, thread } = self;
@@ -89,21 +97,6 @@ impl StopFileWatch {
         watched.parker.unpark();
         thread.join(rt)
     }
-}
-
-/// Looks for the file that ends a campaign, if the arguments name one and there is a thread for it.
-pub fn start_stop_file_watch<R: Threads + Wait + Files + Copy + Drop + Send + 'static>(
-    rt: R,
-    alloc: Global,
-    matches: &ArgMatches<'_>,
-    has_appeared: &Option<Arc<AtomicBool>>,
-) -> Option<StopFileWatch> {
-    let watched = stop_file_state_from_arguments(alloc, matches, has_appeared.as_ref()?)?;
-    let own = Arc::try_clone(&watched).ok()?;
-    let thread = Builder::new()
-        .spawn(&rt, move || watch_for_stop_file(&rt, &own))
-        .ok()?;
-    Some(StopFileWatch { watched, thread })
 }
 
 /// When a campaign ends before all its trials have run, by the arguments.

@@ -40,6 +40,7 @@ mod warned;
 mod watching;
 mod words;
 
+use interrupting::StopFileWatch;
 use pst_cli::KnownSystem;
 use pst_samples::{Counter, Meet, Queue, Racy, Registry, Stuck};
 use pst_system::BoxedSystem;
@@ -137,9 +138,38 @@ fn main(rt: HostRuntime) -> ExitCode {
                     systems = add_system(systems, system);
                 }
             }
-            running::run_subcommand_while_watching(
-                rt, &matches, &prepared, terminals, systems,
-            ).code()
+            let Ok(has_appeared) = interrupting::flag_whether_stop_file_is_there(
+                &rt, alloc, &matches,
+            ) else {
+                return refused::report_out_of_memory(&rt).code();
+            };
+            let shared = interrupting::stop_file_state_for_campaign_and_thread(
+                alloc,
+                &matches,
+                &has_appeared,
+            );
+            let stop_file = match shared {
+                Some((watched, own)) => match Builder::new()
+                    .spawn(&rt, move || interrupting::watch_for_stop_file(&rt, &own))
+                    .ok()
+                {
+                    Some(thread) => Some(StopFileWatch::new(watched, thread)),
+                    None => None,
+                },
+                None => None,
+            };
+            let status = running::run_subcommand_while_watching(
+                rt,
+                &matches,
+                &prepared,
+                terminals,
+                systems,
+                has_appeared,
+            );
+            if let Some(stop_file) = stop_file {
+                stop_file.end(&rt);
+            }
+            status.code()
         });
     match worker {
         Ok(worker) => ExitCode::from(worker.join(&rt)),

@@ -27,7 +27,8 @@ use std::fs::{remove_file, symlink_metadata};
 use std::io;
 use std::io::Write;
 use std::rt::{Files, Runtime};
-use std::sync::Wait;
+use std::sync::atomic::AtomicBool;
+use std::sync::{Arc, Wait};
 use std::thread::Threads;
 use std::time::Clock;
 
@@ -266,8 +267,8 @@ fn run_subcommand_to_chosen_output<
     status_after_reporting_output_failure(rt, status, None, failure)
 }
 
-/// Runs the subcommand, while threads look for the file that ends a campaign and for clients that do not answer. Then
-/// standard error has the notes of the clients, unless the arguments forbid it.
+/// Runs the subcommand, while a thread looks for clients that do not answer. Then standard error has the notes of the
+/// clients, unless the arguments forbid it. `has_appeared` says whether the file is there that ends a campaign.
 pub fn run_subcommand_while_watching<
     R: Runtime + AllocGlobal + Threads + Wait + Sync + Copy + Drop + Send + 'static,
 >(
@@ -276,13 +277,9 @@ pub fn run_subcommand_while_watching<
     prepared: &PreparedInput<'_>,
     terminals: Terminals,
     systems: SystemsResult,
+    has_appeared: Option<Arc<AtomicBool>>,
 ) -> Status {
     let alloc = rt.alloc();
-    let has_appeared = match interrupting::flag_whether_stop_file_is_there(&rt, alloc, matches) {
-        Ok(has_appeared) => has_appeared,
-        Err(_) => return refused::report_out_of_memory(&rt),
-    };
-    let stop_file = interrupting::start_stop_file_watch(rt, alloc, matches, &has_appeared);
     let ending = interrupting::early_stop_from_arguments(matches, has_appeared);
     let work = SubcommandContext {
         matches,
@@ -295,9 +292,6 @@ pub fn run_subcommand_while_watching<
     let status = run_subcommand_to_chosen_output(&rt, work, prepared.input(), systems);
     if let Some(watch) = watch {
         watch.end(&rt);
-    }
-    if let Some(stop_file) = stop_file {
-        stop_file.end(&rt);
     }
     clients::print_client_notes_unless_quiet(&rt, matches, &prepared.notes);
     status
