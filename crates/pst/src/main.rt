@@ -91,8 +91,8 @@ const STACK_BYTES: usize = 256 << 20;
 
 /// Runs the subcommand on a thread of its own.
 ///
-/// The boxed systems are made here, since a function cannot return one and only `main` may name the type of `rt`, which
-/// they take along.
+/// The function is long because the boxed systems and a thread are made here: a function cannot return such a system,
+/// and only `main` may name the type of `rt`, which they take along.
 fn main(rt: HostRuntime) -> ExitCode {
     // All work is done on a thread with a known stack size: the system's limit for the first thread may be too low.
     let worker = Builder::new()

@@ -106,7 +106,7 @@ fn call_node(alloc: Global, operation: &Text, args: Items<Form>) -> Result<Form,
     headed(alloc, "call", prepend_form(alloc, operation, args)?)
 }
 
-/// The tree of an expression.
+/// The tree of an expression. The function is long because it has an arm for each form.
 #[cycle(expr_form)]
 #[tactic(auto, using(crate::proofs::Forms::expr_forms))]
 pub fn expr_form(alloc: Global, expr: &Expr) -> Result<Form, AllocError>

@@ -97,6 +97,7 @@ pub fn read_expr(alloc: Global, has_maps: bool, form: &Form, room: usize) -> Res
     expr_parts(alloc, has_maps, &shape, room - 1)
 }
 
+/// Reads an expression by its shape. The function is long because it has an arm for each shape.
 #[cycle(read_expr)]
 fn expr_parts(
     alloc: Global,
