@@ -198,8 +198,9 @@ fn start_crew_work_and_dismiss<
     )
 }
 
-/// Works at a fresh seat with a crew on the system, whose relations are those that `J` names. If the threads of
-/// the crew do not all start, it does no work and returns the seat and the system, as an `Err`.
+/// Works at a fresh seat with a crew on the system, whose relations are those that `J` names. If the threads of the
+/// crew do not all start, it does no work and returns the seat and the system, as an `Err`. Each clause is a fact on
+/// one of the things that it is given or gives back.
 fn work_with_new_crew<
     K: StopCondition,
     J: Relations + Send + Sync,

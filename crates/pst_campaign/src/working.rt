@@ -18,7 +18,7 @@ use std::sync::{Arc, Wait};
 use std::thread::Threads;
 
 /// Claims numbers until none is left or the plan is over, runs the trial of each, and deposits its record or gives the
-/// number up.
+/// number up. Each clause is a fact on one part of the seat, or on the system.
 pub(crate) fn run_trials_until_over<R: Numbered, S: Drop, P: TrialRunner<R, S>, H: Threads + Wait>(
     rt: &H,
     alloc: Global,
@@ -70,9 +70,9 @@ pub(crate) fn work_with_own_seat_and_system<
     seat
 }
 
-/// Works at a seat of a ledger until no number is left: claims a number, runs its trial of the plan on the
-/// system, and deposits the record. A number whose trial has a fault is given up for the cause of that name.
-/// The call waits for as long as the calls of the system do.
+/// Works at a seat of a ledger until no number is left: claims a number, runs its trial of the plan on the system, and
+/// deposits the record. A number whose trial has a fault is given up for the cause of that name. The call waits for as
+/// long as the calls of the system do. Each clause is a fact on one part of the seat, or on the system.
 pub fn run_trials_until_none_is_left<H: Threads + Wait + Sync>(
     rt: &H,
     alloc: Global,

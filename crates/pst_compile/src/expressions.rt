@@ -144,7 +144,8 @@ fn unary_code(
     )
 }
 
-/// The code of an operator, whose value goes to the register `dest`.
+/// The code of an operator, whose value goes to the register `dest`. The parts of the form are parameters of their own,
+/// since the contract names each.
 #[cycle(expression_code)]
 pub fn binary_code(
     operator: Binary,
@@ -165,7 +166,8 @@ pub fn binary_code(
     concat_code(left.code, append_instruction(right.code, last)?)
 }
 
-/// The code of a map with a key and its value, which goes to the register `dest`.
+/// The code of a map with a key and its value, which goes to the register `dest`. The parts of the form are parameters
+/// of their own, since the contract names each.
 #[cycle(expression_code)]
 pub fn map_put_code(
     map: &Boxed<Expr>,

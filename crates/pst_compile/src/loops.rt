@@ -37,7 +37,7 @@ pub fn for_code(
     prepend_instruction(context.alloc, Instr::Const(built, empty), code)
 }
 
-/// The code of a fold.
+/// The code of a fold. The parts of the form are parameters of their own, since the contract names each.
 #[cycle(expression_code)]
 pub fn fold_code(
     name: &Text,
@@ -94,7 +94,8 @@ fn clauses_code(
     }
 }
 
-/// The code of the other clauses and the body for each item of a list.
+/// The code of the other clauses and the body for each item of a list. The parts of the clause are parameters of their
+/// own, since the contract names each.
 #[cycle(expression_code)]
 fn in_clause_code(
     name: &Text,
@@ -122,7 +123,8 @@ fn in_clause_code(
     )
 }
 
-/// The code that runs the other clauses and the body if a test is true.
+/// The code that runs the other clauses and the body if a test is true. The parts of the clause are parameters of their
+/// own, since the contract names each.
 #[cycle(expression_code)]
 fn when_clause_code(
     test: &Expr,

@@ -60,6 +60,8 @@ pub fn overwriting_code(
     }
 }
 
+/// The code of a `let` whose value goes to the register `dest`, over the value there. The parts of the form are
+/// parameters of their own, since the contract names each.
 #[cycle(expression_code)]
 fn overwrite_by_let(
     name: &Text,
@@ -80,6 +82,8 @@ fn overwrite_by_let(
     concat_code(first.code, second)
 }
 
+/// The code of an `if` whose value goes to the register `dest`, over the value there. The parts of the form are
+/// parameters of their own, since the contract names each.
 #[cycle(expression_code)]
 fn overwrite_by_if(
     test: &Boxed<Expr>,

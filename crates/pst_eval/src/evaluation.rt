@@ -281,7 +281,8 @@ fn eval_clauses(
     }
 }
 
-/// What the other clauses append for each item.
+/// What the other clauses append for each item. What is evaluated, its names and what is built so far are parameters of
+/// their own, since the contract names each.
 #[cycle(eval)]
 fn eval_clauses_for_each(
     rest: &[Clause],
@@ -306,7 +307,8 @@ fn eval_clauses_for_each(
     Ok(built)
 }
 
-/// What a fold builds of the items of a list.
+/// What a fold builds of the items of a list. The parts of the form are parameters of their own, since the contract
+/// names each.
 #[cycle(eval)]
 fn eval_fold(
     name: &Text,
@@ -337,7 +339,8 @@ fn eval_fold(
     )
 }
 
-/// What is built of each item in turn.
+/// What is built of each item in turn. What is evaluated, its names and what is built so far are parameters of their
+/// own, since the contract names each.
 #[cycle(eval)]
 fn fold_over(
     body: &Expr,

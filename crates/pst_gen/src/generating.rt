@@ -30,7 +30,8 @@ fn most_parallel(branches: u32, before: &[Command]) -> usize
     }
 }
 
-/// The split by `word` with the most parallel commands, at most `parallel`, that gives an accepted case.
+/// The split by `word` with the most parallel commands, at most `parallel`, that gives an accepted case. The bounds on
+/// the parts of a case are clauses of their own.
 fn longest_split<C: Callbacks>(
     callbacks: &C,
     alloc: Global,

@@ -9,7 +9,7 @@ use crate::{Ending, Steps};
 use std::alloc::{AllocError, Global};
 
 /// Runs the rest after the word, which is a whole interleaving, and returns whether the search is for it. If it is not
-/// true to its end, the search notes where it stops.
+/// true to its end, the search notes where it stops. Each clause is a fact on one of the things that the search keeps.
 pub(crate) fn run_to_end<S: Steps>(
     alloc: Global,
     steps: &S,

@@ -16,8 +16,9 @@ use crate::{EveryAnswer, SomeAnswer, StepOutcome, Steps};
 use indexmap::IndexSet;
 use std::alloc::{AllocError, Global};
 
-/// Searches the completions of the word for the first that the search is for, and returns whether there is one. If it is
-/// true to its end, it is then the word, and otherwise it is what the search keeps.
+/// Searches the completions of the word for the first that the search is for, and returns whether there is one. If it
+/// is true to its end, it is then the word, and otherwise it is what the search keeps. Each clause is a fact on one of
+/// the things that the search keeps.
 #[cycle(search)]
 fn explore<S: Steps>(
     alloc: Global,
@@ -58,7 +59,8 @@ fn explore<S: Steps>(
     Ok(false)
 }
 
-/// Searches the completions of the word that begin with `branch`.
+/// Searches the completions of the word that begin with `branch`. Each clause is a fact on one of the things that the
+/// search keeps.
 #[cycle(search)]
 fn explore_branch<S: Steps>(
     alloc: Global,

@@ -85,7 +85,7 @@ impl<F: Drop> SearchProgress<F> {
         })
     }
 
-    /// Advances by one command of `branch`.
+    /// Advances by one command of `branch`. Each clause is a fact on one of the things that the search keeps.
     #[inline(always)]
     pub(crate) fn enter(&mut self, lengths: &[usize], branch: usize) -> Result<(), AllocError>
         requires place { IsAt lengths.now self.old.done.items }

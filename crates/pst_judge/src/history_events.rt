@@ -31,7 +31,7 @@ pub fn events_of_prefix(
 }
 
 /// The events of the branches and of the suffix of a history whose replies are all values, with the condition to check
-/// on them.
+/// on them. It returns several lists, with a clause on each.
 pub fn branches_with_events<'a, C: Callbacks, A: Condition>(
     callbacks: &'a C,
     condition: &'a A,

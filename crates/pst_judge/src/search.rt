@@ -151,7 +151,7 @@ fn verdict_of(alloc: Global, prefix: usize, answer: SomeAnswer<FaultPlace>) -> (
 
 /// Searches the interleavings of the branches, from the state after the prefix, with the suffix after each, and returns
 /// the verdict. If no interleaving explains, also returns the branch numbers of the true events in the interleaving
-/// that the verdict rests on.
+/// that the verdict rests on. Each `requires` is one fact on what has happened before.
 pub fn search<C: Callbacks, A: Condition>(
     alloc: Global,
     branches: &Branches<'_, C, A>,

@@ -144,7 +144,8 @@ fn sum_of_branch_lengths(lengths: &[usize]) -> usize
     }
 }
 
-/// Whether the model is at hand and its form shows that no interleaving of branches of these lengths fails.
+/// Whether the model is at hand and its form shows that no interleaving of branches of these lengths fails. Each
+/// `requires` is one fact on the case that was read.
 fn form_shows_no_interleaving_fails<C: Callbacks>(
     branches: &SymbolicBranches<'_, C>,
     lengths: &[usize],

@@ -1,5 +1,6 @@
 -- How the faulty part of an expression is found.
-use Rattle.std.specs.Prelude.{◌≡◌, ℕ, ◌+◌, ◌<◌, ◌≤◌, ⊤, List, map, reverse, Option, Some, None}
+use Rattle.std.specs.Borrow.{Bor}
+use Rattle.std.specs.Prelude.{◌≡◌, ℕ, ◌+◌, ◌<◌, ◌≤◌, ⊤, Bool, true, false, List, [], ◌∷◌, map, reverse, Option, Some, None}
 use Rattle.pst_scene.specs.Outcomes.{outcome_at}
 use Rattle.pst_scene.specs.declared.attempt.TriedAll.{TriedAll}
 use Rattle.pst_scene.specs.declared.attempt.TriedAll.TheVariants.{Give as AllGive, Faults as AllFault, Stuck as AllStuck}
@@ -13,7 +14,8 @@ use Rattle.pst_eval.specs.declared.context.Context.{Context}
 use Rattle.pst_eval.specs.Meaning.{Env, Mean, Run, ◌>>=◌, ◌>>◌, lift, all, applied, bound, called, mean}
 use Rattle.pst_eval.specs.Weight.{weight, total, functions_weight}
 use Rattle.pst_model.specs.Parts.{Name}
-use Rattle.pst_model.specs.declared.expr.Expr.{Expr}
+use Rattle.pst_model.specs.declared.expr.Clause.{Clause}
+use Rattle.pst_model.specs.declared.expr.Expr.{Expr, Expr-F, And, Or, out-Expr}
 use Rattle.pst_model.specs.declared.model.Fun.{Fun}
 use Rattle.pst_model.specs.declared.model.Item.{Item}
 use Rattle.pst_operators.specs.Outcome.{Outcome, Gives, Faults, Stuck, turn}
@@ -25,6 +27,10 @@ abbrev pub Attempts : Outcome (Value × ℕ) → Tried → Type 0
 Attempts o (Gives' v left) = o ≡ Gives (v, left)
 Attempts o (Faults' why) = o ≡ Faults why
 Attempts o Stuck' = o ≡ Stuck
+
+-- the expressions that references point to
+abbrev pub referred : List (Bor Expr) → List Expr
+referred = map (λ e. e.now)
 
 -- the first of the expressions that has no value faults
 pub record FirstFaults (m : Expr → Mean) (es : List Expr) (env : Env) (turns : ℕ) (e : Expr) (left : ℕ)
@@ -55,6 +61,49 @@ abbrev pub Visits : List Item → Outcome (List Value × ℕ) → Visited → Ty
 Visits items o (Built vs left) = o ≡ Gives (vs, left)
 Visits items o (Part p why) = (o ≡ Faults why) × (outcome_at items p ≡ Faults why)
 Visits items o Itself = ⊤
+
+-- the operands of a form that evaluates all its parts from left to right, in the names that it sees itself. Other forms
+-- have none
+abbrev pub operands_at : Expr-F Clause Expr → List Expr
+operands_at (Expr-F.Unary operator e) = e ∷ []
+operands_at (Expr-F.Binary operator a b) = a ∷ b ∷ []
+operands_at (Expr-F.Tuple es) = es
+operands_at (Expr-F.At e place) = e ∷ []
+operands_at (Expr-F.List type es) = es
+operands_at (Expr-F.Put m k v) = m ∷ k ∷ v ∷ []
+operands_at (Expr-F.Call x es) = es
+operands_at _ = []
+
+abbrev pub operands : Expr → List Expr
+operands e = operands_at (out-Expr e)
+
+-- no fault
+abbrev pub HasNoFault : {A : Type 0} → Outcome A → Type 0
+HasNoFault (Gives a) = ⊤
+HasNoFault (Faults why) = ⊥
+HasNoFault Stuck = ⊤
+
+-- what evaluating the operands from left to right comes to
+abbrev pub evaluated_operands : Context → Expr → Env → Run (List Value)
+evaluated_operands c e = all (map (mean_in c) (operands e))
+
+-- an `and`, whose second operand is evaluated after true, or an `or`, whose second operand is evaluated after false
+abbrev pub and_or : Bool → Expr → Expr → Expr
+and_or true a b = And a b
+and_or false a b = Or a b
+
+-- no part decides the outcome of a form: an `if` is stuck, an `and` or an `or` does not fault, and no operand of any
+-- other form faults
+abbrev pub IsUndecided : Expr-F Clause Expr → Outcome (Value × ℕ) → Outcome (List Value × ℕ) → Type 0
+IsUndecided (Expr-F.If test a b) whole parts = whole ≡ Stuck
+IsUndecided (Expr-F.And a b) whole parts = HasNoFault whole
+IsUndecided (Expr-F.Or a b) whole parts = HasNoFault whole
+IsUndecided _ whole parts = HasNoFault parts
+
+-- no part that sees the names of the whole decides its outcome. It says nothing of forms that bind names or apply a
+-- function
+abbrev pub HasNoDecidingPart : Context → Expr → Env → ℕ → Type 0
+HasNoDecidingPart c e env turns = IsUndecided (out-Expr e) (mean_in c e env turns) (evaluated_operands c e env turns)
 
 -- the part decides the outcome of the whole, and weighs less
 pub record Decides (c : Context) (e : Expr) (env : Env) (turns : ℕ) (part : Expr) (left : ℕ) : Type 0 where

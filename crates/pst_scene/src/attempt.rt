@@ -4,7 +4,7 @@ ghost use Rattle.std.specs.Prelude.{◌≡◌, [], ◌∷◌, reverse, IfOk, Mat
 ghost use Rattle.pst_eval.specs.Env.{env_of, mean_in};
 ghost use Rattle.pst_eval.specs.Meaning as spec;
 ghost use Rattle.pst_scene.specs.Outcomes.{outcome_at};
-ghost use Rattle.pst_scene.specs.Parts.{Attempts, AttemptsAll, NamedIn};
+ghost use Rattle.pst_scene.specs.Parts.{Attempts, AttemptsAll, NamedIn, referred};
 
 use crate::binding::bindings_of_environment;
 use crate::faulty::FaultyPart;
@@ -12,7 +12,7 @@ use pst_eval::{Context, Env, eval};
 use pst_model::{Clause, Expr, Fun, Item};
 use pst_operators::Stop;
 use pst_value::{Fault, Items, Value};
-use std::alloc::AllocError;
+use std::alloc::{AllocError, Global};
 
 /// The place of an expression.
 #[derive(Drop)]
@@ -64,6 +64,30 @@ pub fn try_evaluate(
 }
 
 /// Evaluates expressions from left to right.
+pub fn try_evaluate_each<'a>(
+    exprs: &[&'a Expr],
+    context: &Context<'_>,
+    env: &Env<'_>,
+    turns: u32,
+) -> Result<TriedAll<'a>, AllocError>
+    ensures { IfOk result (AttemptsAll (mean_in context.now) (referred exprs.now) (env_of env.now) turns) }
+{
+    let mut values = Items::new(context.alloc);
+    let mut left = turns;
+    for expr in exprs {
+        match try_evaluate(*expr, context, env, left)? {
+            Tried::Gives(value, more) => {
+                values.push(value)?;
+                left = more;
+            }
+            Tried::Faults(fault) => return Ok(TriedAll::Faults(*expr, left, fault)),
+            Tried::Stuck => return Ok(TriedAll::Stuck),
+        }
+    }
+    Ok(TriedAll::Give(values, left))
+}
+
+/// Evaluates the expressions of a slice from left to right.
 pub fn try_evaluate_all<'a>(
     exprs: &'a [Expr],
     context: &Context<'_>,
@@ -72,19 +96,19 @@ pub fn try_evaluate_all<'a>(
 ) -> Result<TriedAll<'a>, AllocError>
     ensures { IfOk result (AttemptsAll (mean_in context.now) exprs.now (env_of env.now) turns) }
 {
-    let mut values = Items::new(context.alloc);
-    let mut left = turns;
+    let each = references(context.alloc, exprs)?;
+    try_evaluate_each(each.as_slice(), context, env, turns)
+}
+
+/// A reference to each expression of a slice.
+pub fn references<'a>(alloc: Global, exprs: &'a [Expr]) -> Result<Vec<&'a Expr>, AllocError>
+    ensures { IfOk result (λ each. referred each.items ≡ exprs.now) }
+{
+    let mut each = Vec::new(alloc);
     for expr in exprs {
-        match try_evaluate(expr, context, env, left)? {
-            Tried::Gives(value, more) => {
-                values.push(value)?;
-                left = more;
-            }
-            Tried::Faults(fault) => return Ok(TriedAll::Faults(expr, left, fault)),
-            Tried::Stuck => return Ok(TriedAll::Stuck),
-        }
+        each.push(expr)?;
     }
-    Ok(TriedAll::Give(values, left))
+    Ok(each)
 }
 
 fn split_last_item(items: &[Item]) -> Option<(&Item, &[Item])>

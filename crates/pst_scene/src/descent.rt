@@ -183,7 +183,8 @@ fn faulty_part_in_fold<'a>(
     }
 }
 
-/// The part of the body of a fold that has no value by itself, of the first item for which it has none.
+/// The part of the body of a fold that has no value by itself, of the first item for which it has none. What is
+/// evaluated, its names and what is built so far are parameters of their own, since the contract names each.
 #[cycle(descent)]
 fn faulty_part_in_fold_items<'a>(
     body: &'a Expr,
@@ -281,7 +282,8 @@ fn visit_clauses<'a>(
     }
 }
 
-/// The result of visiting the other clauses for each item.
+/// The result of visiting the other clauses for each item. What is evaluated, its names and what is built so far are
+/// parameters of their own, since the contract names each.
 #[cycle(descent)]
 fn visit_clauses_for_each_item<'a>(
     rest: &'a [Clause],

@@ -150,7 +150,8 @@ fn add_binary_faults(
     Ok(())
 }
 
-/// Adds the faults of expressions that are the parts 1, 2 and 3 of the tree at `path`.
+/// Adds the faults of expressions that are the parts 1, 2 and 3 of the tree at `path`. The parts are parameters of their
+/// own, since the contract names each.
 #[cycle(add_expr_faults)]
 #[tactic(auto, using(crate::proofs::Keeping::keeping))]
 fn add_ternary_faults(
@@ -172,7 +173,8 @@ fn add_ternary_faults(
     Ok(())
 }
 
-/// Adds the faults of a body that sees a value under a name.
+/// Adds the faults of a body that sees a value under a name. The parts of the `let` are parameters of their own, since the
+/// contract names each.
 #[cycle(add_expr_faults)]
 #[tactic(auto, using(crate::proofs::Keeping::keeping))]
 fn add_let_faults(

@@ -46,7 +46,8 @@ fn add_state_faults(
 }
 
 /// Adds the faults of a function or an operation at `path`, apart from its body or its callbacks. `has_room`
-/// says whether the model may have one more.
+/// says whether the model may have one more. The parts of the item are parameters of their own, since functions and
+/// operations have them in common, and nothing else.
 fn add_declaration_faults(
     walk: FaultSearch,
     faults: &mut Faults,

@@ -78,7 +78,8 @@ fn add_ty_parts_faults(
     }
 }
 
-/// Adds the faults of the type in the type at `path`, of which it is part `number`.
+/// Adds the faults of the type in the type at `path`, of which it is part `number`. `role` and `room` are those of the
+/// outer type; the tree, its path and its number make the place.
 #[cycle(add_ty_faults)]
 #[tactic(auto, using(crate::proofs::Keeping::keeping))]
 fn add_inner_ty_faults(
@@ -98,7 +99,8 @@ fn add_inner_ty_faults(
     Ok(())
 }
 
-/// Adds the faults of a type that is part `number` of the tree at `path`.
+/// Adds the faults of a type that is part `number` of the tree at `path`. `role` and `room` are those of the outer type;
+/// the tree, its path and its number make the place.
 #[cycle(add_ty_faults)]
 pub fn add_ty_part_faults(
     walk: FaultSearch,

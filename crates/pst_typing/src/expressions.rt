@@ -163,7 +163,8 @@ fn infer_each(
     Ok(all)
 }
 
-/// A fold over a list. The body is visited only if what it sees has kinds.
+/// A fold over a list. The body is visited only if what it sees has kinds. The parts of the form are parameters of
+/// their own, since the contract names each.
 #[cycle(infer)]
 fn infer_fold(
     name: &Text,
@@ -228,7 +229,8 @@ fn infer_clauses(
     }
 }
 
-/// A clause that takes the items of a list, and what follows it.
+/// A clause that takes the items of a list, and what follows it. The parts of the clause are parameters of their own,
+/// since the contract names each.
 #[cycle(infer)]
 fn infer_items(
     all: Gathered,
