@@ -8,8 +8,8 @@ use crate::bounded::StepLimitedCallbacks;
 use pst_case::{History, Reply};
 use pst_eval::{Callbacks, Env};
 use pst_reasons::{
-    AllowedValues, Candidates, append_numbers_without, find_allowed_values,
-    interleaving_where_answers_are_wrong,
+    AllowedValues, AnswerQuestion, Candidates, RecordedRun, append_numbers_without,
+    find_allowed_values, interleaving_where_answers_are_wrong,
 };
 use pst_scene::{
     Call, Falsity, Scene, falsity_of_postcondition, operation_of_call, recorded_arguments,
@@ -112,19 +112,20 @@ pub fn wrong_answer_if_rest_is_right<'a, C: Callbacks>(
     requires answered { first_broken 1 (recorded history.now) ≡ None }
 {
     let number = call.number;
-    let shaped = &scene.run.shaped;
     let others = append_numbers_without(number, core, Vec::new(alloc))?;
-    let others = others.as_slice();
-    let merge = interleaving_where_answers_are_wrong(
+    let run = RecordedRun {
         callbacks,
         alloc,
-        scene.model,
-        shaped,
+        shaped: &scene.run.shaped,
         history,
-        others,
+    };
+    let question = AnswerQuestion {
+        run: &run,
+        model: scene.model,
+        others: others.as_slice(),
         number,
-        &[],
-    )?;
+    };
+    let merge = interleaving_where_answers_are_wrong(&question, &[])?;
     callbacks.take_steps_of_calls(scene.all.len())?;
     match merge {
         Some(word) => wrong_answer_unless_fault_before_call(alloc, scene, call, word),
@@ -154,19 +155,14 @@ pub fn allowed_answers_for_explanation<C: Callbacks>(
         scene,
         call,
     };
-    let shaped = &scene.run.shaped;
-    callbacks.set_further_calls_of_next(1);
-    let found = find_allowed_values(
+    let run = RecordedRun {
         callbacks,
         alloc,
-        scene.model,
-        shaped,
+        shaped: &scene.run.shaped,
         history,
-        core,
-        call.number,
-        &wanted,
-        MOST,
-    )?;
+    };
+    callbacks.set_further_calls_of_next(1);
+    let found = find_allowed_values(&run, scene.model, core, call.number, &wanted, MOST)?;
     callbacks.set_further_calls_of_next(0);
     Ok(found)
 }

@@ -11,7 +11,7 @@ use crate::allowing::{
 use crate::bounded::StepLimitedCallbacks;
 use pst_case::History;
 use pst_eval::Callbacks;
-use pst_reasons::{AllowedValues, minimal_core};
+use pst_reasons::{AllowedValues, RecordedRun, minimal_core};
 use pst_scene::{
     Call, CasePart, Scene, call_numbered, operation_of_call, postcondition_wants_one_reply,
 };
@@ -169,7 +169,13 @@ pub fn find_core_for_explanation<'a, C: Callbacks>(
     requires unexplained { IsUnexplained (C.model callbacks.now.callbacks.now) scene.now.run.now.shaped.case
         history.now }
 {
-    let numbers = minimal_core(callbacks, alloc, &scene.run.shaped, history)?;
+    let run = RecordedRun {
+        callbacks,
+        alloc,
+        shaped: &scene.run.shaped,
+        history,
+    };
+    let numbers = minimal_core(&run)?;
     let numbers = numbers.as_slice();
     let mut answers = Vec::new(alloc);
     for number in numbers {

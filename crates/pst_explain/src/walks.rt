@@ -7,7 +7,7 @@ ghost use Rattle.pst_judge.specs.Verdict.{first_broken};
 use pst_case::History;
 use pst_eval::Callbacks;
 use pst_judge::{Condition, Postconditions, verdict_with_interleaving};
-use pst_reasons::{SomePostconditions, states};
+use pst_reasons::{RecordedRun, SomePostconditions, states};
 use pst_scene::{
     Call, CasePart, DeadEnd, Outcome, PreAnswer, Scene, calls_in_interleaving_order,
     calls_that_may_come_next, evaluate_precondition, falsity_of_postcondition,
@@ -182,8 +182,13 @@ fn walk_until_condition_fails<'a, C: Callbacks, A: Condition>(
     requires answered { first_broken 1 (recorded history.now) ≡ None }
 {
     let order = calls_in_interleaving_order(alloc, &scene.calls, word)?;
-    let shaped = &scene.run.shaped;
-    let states = states(callbacks, condition, alloc, shaped, history, word)?;
+    let run = RecordedRun {
+        callbacks,
+        alloc,
+        shaped: &scene.run.shaped,
+        history,
+    };
+    let states = states(&run, condition, word)?;
     walk_along_calls(alloc, scene, word, order.as_slice(), states.as_slice())
 }
 

@@ -7,7 +7,7 @@ use crate::asking::Preconditions;
 use pst_case::{Case, Command, Run};
 use pst_eval::Callbacks;
 use pst_model::{Expr, Item};
-use pst_reasons::states;
+use pst_reasons::{RecordedRun, states};
 use pst_value::Value;
 use std::alloc::{AllocError, Global};
 
@@ -108,7 +108,13 @@ pub fn first_command_with_false_precondition<C: Callbacks>(
     if !are_results_known(history.recorded(alloc)?.as_slice()) {
         return Ok(None);
     }
-    let mut states = states(callbacks, &Preconditions, alloc, &run.shaped, history, word)?;
+    let recorded = RecordedRun {
+        callbacks,
+        alloc,
+        shaped: &run.shaped,
+        history,
+    };
+    let mut states = states(&recorded, &Preconditions, word)?;
     let case = run.shaped.case();
     let commands = count_case_commands(case);
     let count = states.len();

@@ -3,15 +3,15 @@ use Rattle.std.proofs.Common.{◌≡◌, ◌==◌, ◌||◌, ℕ, Bool, true, fa
 use Rattle.std.specs.Prelude.{if◌then◌else◌}
 use Rattle.pst_case.specs.declared.case.Case.{Case}
 use Rattle.pst_case.specs.declared.history.History.{History}
-use Rattle.pst_judge.specs.Replay.{Asking, post_asked}
+use Rattle.pst_judge.specs.Replay.{post_asked}
 use Rattle.pst_judge.specs.declared.events.Event.{Event}
 use Rattle.pst_model.specs.declared.model.Source.{Source}
 use Rattle.pst_operators.specs.Operators.{truth_of, truth_at}
 use Rattle.pst_operators.specs.Outcome.{Outcome, Gives}
-use Rattle.pst_reasons.proofs.Among.{same_number, other_number, itself, in_first, in_second, in_either, among_without, to_without, among_numbers}
+use Rattle.pst_reasons.proofs.Among.{same_number, in_first, in_second, in_either, among_without, to_without, among_numbers}
 use Rattle.pst_reasons.proofs.Fewer.{EachEvent, EachOfBranches, SaysTrue, replayed_true}
 use Rattle.pst_reasons.proofs.Numbered.{IsUpTo, prefix_numbered, branches_numbered, suffix_numbered}
-use Rattle.pst_reasons.specs.Reasons.{is_among, without, numbers_to, number_of_commands, asks, always_true, IsPossible, IsImpossible, IsNeeded, IsCore, IsUnexplained}
+use Rattle.pst_reasons.specs.Reasons.{is_among, without, numbers_to, number_of_commands, asks, always_true, IsPossible, IsImpossible, IsNeeded, IsUnexplained}
 use Rattle.pst_value.specs.declared.value.Value.{Value, out-roll-Value, Bool as Truth}
 use Rattle.pst_value.specs.declared.value.Value.TheOpen.{Value-F}
 use Rattle.pst_value.specs.declared.value.Value.TheVariants.{rolls-Bool}

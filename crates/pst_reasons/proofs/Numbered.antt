@@ -1,5 +1,5 @@
 -- The numbers of the events of a history are those of the commands of its case.
-use Rattle.std.proofs.Common.{◌≡◌, ℕ, zero, suc, ◌+◌, ◌≤◌, true, List, [], ◌∷◌, length, Option, Some, None, refl, sym, ap, ◌∙◌, subst, slice_get, arith, length-append}
+use Rattle.std.proofs.Common.{◌≡◌, ℕ, zero, suc, ◌+◌, ◌≤◌, List, [], ◌∷◌, length, Option, Some, subst, slice_get, arith, length-append}
 use Rattle.pst_case.specs.Recorded.{recorded}
 use Rattle.pst_case.specs.Shape.{joined, before_suffix}
 use Rattle.pst_case.specs.declared.case.Case.{Case}
@@ -7,7 +7,7 @@ use Rattle.pst_case.specs.declared.case.Command.{Command}
 use Rattle.pst_case.specs.declared.history.History.{History}
 use Rattle.pst_case.specs.declared.history.Reply.{Reply}
 use Rattle.pst_case.specs.declared.history.Reply.TheVariants.{Value as Answered, Misfit, Failed, NotRun}
-use Rattle.pst_judge.specs.Replay.{event_at, part_events, branches_events, prefix_events, branch_events, suffix_events}
+use Rattle.pst_judge.specs.Replay.{part_events, branches_events, prefix_events, branch_events, suffix_events}
 use Rattle.pst_judge.specs.declared.events.Event.{Event}
 use Rattle.pst_reasons.proofs.Fewer.{EachEvent, EachOfBranches}
 use Rattle.pst_reasons.specs.Reasons.{number_of_commands}

@@ -1,19 +1,18 @@
 -- An expression in which a name does not stand means the same whatever the name is bound to.
-use Rattle.std.proofs.Common.{◌≡◌, ◌||◌, Bool, true, false, ℕ, List, [], ◌∷◌, ◌++◌, map, refl, sym, ap, ◌∙◌, subst}
+use Rattle.std.proofs.Common.{◌≡◌, ◌||◌, Bool, true, false, List, [], ◌∷◌, ◌++◌, map, refl, sym, ap, ◌∙◌, subst}
 use Rattle.std.specs.Prelude.{reverse, if◌then◌else◌}
 use Rattle.std.specs.List.{list_any}
 use Rattle.std.specs.Str.{bytes_eq}
 use Rattle.pst_reasons.proofs.OneAnswer.{or_first, or_second}
 use Rattle.pst_reasons.specs.Names.{one_of_them, names_at, clause_names_at, names, clause_names}
 use Rattle.pst_eval.specs.Callbacks.{at_names, max_turns}
-use Rattle.pst_eval.specs.Meaning.{Env, Called, called, Mean, Part, Run, part_at, mean_at, mean, part, looked_up, applied, lift, pure, truth, all, all_from, visit, visit_each, comprehension, fold_over, call_of, ◌>>=◌, ◌>>◌}
-use Rattle.pst_model.specs.Parts.{Name, operation_number}
+use Rattle.pst_eval.specs.Meaning.{Env, Called, called, Mean, Part, Run, part_at, mean_at, mean, part, looked_up, lift, truth, all, all_from, visit, visit_each, fold_over, ◌>>=◌, ◌>>◌}
+use Rattle.pst_model.specs.Parts.{Name}
 use Rattle.pst_model.specs.declared.expr.Clause.{Clause, Clause-F, map-Clause, fold-roll-Clause}
 use Rattle.pst_model.specs.declared.expr.Expr.{Expr, Expr-F, map-Expr, fold-roll-Expr, ind-Expr}
 use Rattle.pst_model.specs.declared.model.Item.{Item}
 use Rattle.pst_model.specs.declared.model.Source.{Source}
-use Rattle.pst_operators.specs.Operators.{bool, tuple, list, unary, binary, append, items_of, truth_of, item as item_of}
-use Rattle.pst_operators.specs.Maps.{put}
+use Rattle.pst_operators.specs.Operators.{items_of, truth_of}
 use Rattle.pst_operators.specs.Outcome.{Gives, turn}
 use Rattle.pst_model.specs.WellTyped.{name_r}
 use Rattle.pst_value.specs.declared.value.Value.{Value}

@@ -1,6 +1,6 @@
 -- The answers that a model allows in place of a recorded one.
 use Rattle.std.specs.Prelude.{◌≡◌, ◌==◌, ℕ, not, Bool, true, false, if◌then◌else◌, List, [], ◌∷◌, slice_get, ◌⊎◌, Some, Result, Ok, Err}
-use Rattle.std.specs.List.{list_any}
+use Rattle.std.specs.List.{All, list_any}
 use Rattle.pst_case.specs.declared.case.Case.{Case}
 use Rattle.pst_case.specs.declared.history.History.{History}
 use Rattle.pst_eval.specs.Callbacks.{post_of}
@@ -79,6 +79,10 @@ module _ (m : Source) (c : Case) (h : History) (others : List ℕ) (number : ℕ
   -- the model allows the answer: in some merge in which the others are right, it would have been right
   abbrev pub IsAllowed : Value → Type 0
   IsAllowed answer = (word : List ℕ) × IsRightIn answer word
+
+  -- answers that the model allows, none of them twice
+  abbrev pub AreAllowedOnce : List Value → Type 0
+  AreAllowedOnce answers = All IsAllowed answers × AreDistinct answers
 
   -- a merge in which the others are right, and the command would be with none of these answers
   abbrev pub IsBeyond : List Value → List ℕ → Type 0

@@ -4,3 +4,4 @@ pub mod Allowed
 pub mod Equality
 pub mod Names
 pub mod States
+pub mod Answered

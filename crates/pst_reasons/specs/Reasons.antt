@@ -75,6 +75,13 @@ module _ (m : Source) (c : Case) (h : History) where
   IsNeeded first numbers =
       (number : ℕ) → is_among number numbers ≡ true → IsPossible (without number (first ++ numbers))
 
+  -- on the way to a core: these numbers cannot all be right with the first ones before them, each of these is
+  -- needed, and all rise
+  pub record IsCoreSoFar (first numbers : List ℕ) : Type 0 where
+    pub impossible : IsImpossible (first ++ numbers)
+    pub needed : IsNeeded first numbers
+    pub rising : AreRising 0 (number_of_commands c) (first ++ numbers)
+
   -- no merge makes all postconditions true
   abbrev pub IsUnexplained : Type 0
   IsUnexplained =

@@ -1,19 +1,17 @@
 //! The answers that a model allows in place of a recorded one.
 //!
 //! An answer of a command is allowed if some interleaving makes it right, together with the answers of other commands.
-ghost use Rattle.std.specs.Prelude.{◌≡◌, ◌+◌, ◌<◌, ◌≤◌, true, false, None, IfOk, IfSome, length};
-ghost use Rattle.std.specs.List.{All};
+ghost use Rattle.std.specs.Prelude.{◌≡◌, ◌+◌, ◌<◌, ◌≤◌, true, false, IfOk, IfSome, length};
 ghost use Rattle.pst_reasons.specs.Allowed as spec;
-ghost use Rattle.pst_reasons.specs.Allowed.{AreDistinct, HasOneAnswer, HaveEachAllowed, IsAllowed, IsWhetherAll};
-ghost use Rattle.pst_case.specs.Matches.{matches};
-ghost use Rattle.pst_case.specs.Recorded.{recorded};
-ghost use Rattle.pst_judge.specs.Verdict.{first_broken};
+ghost use Rattle.pst_reasons.specs.Allowed.{AreAllowedOnce, HasOneAnswer, HaveEachAllowed, IsAllowed, IsWhetherAll};
+ghost use Rattle.pst_reasons.specs.Answered.{IsAnsweredRun};
 ghost use Rattle.pst_reasons.specs.Reasons as reasons;
 
 use crate::answers::split_first_answer;
 use crate::numbers::append_numbers_without;
-use crate::searching::{interleaving_where_answers_are_wrong, is_answer_allowed};
-use pst_case::{History, Shaped};
+use crate::recorded::RecordedRun;
+use crate::searching::{AnswerQuestion, interleaving_where_answers_are_wrong, is_answer_allowed};
+use pst_case::History;
 use pst_eval::Callbacks;
 use pst_model::Source;
 use pst_value::{Items, Value};
@@ -47,34 +45,25 @@ fn is_answer_one_of(answer: &Value, answers: &[Value]) -> bool
 
 /// Returns the proposed answer for the interleaving `word`, if it is new and the model allows it.
 fn new_allowed_candidate<C: Callbacks, P: Candidates>(
-    callbacks: &C,
-    alloc: Global,
-    model: &Source,
-    shaped: &Shaped,
-    history: &History,
-    others: &[u32],
-    number: u32,
+    question: &AnswerQuestion<'_, C>,
     candidates: &P,
     word: &[usize],
     known: &[Value],
 ) -> Result<Option<Value>, AllocError>
-    requires same { model.now ≡ C.model callbacks.now }
-    requires model { shaped.now.model ≡ C.model callbacks.now }
-    requires matches { matches (C.model callbacks.now) shaped.now.case history.now ≡ true }
-    requires answered { first_broken 1 (recorded history.now) ≡ None }
-    ensures allowed { IfOk result (λ found. IfSome found
-        (IsAllowed (C.model callbacks.now) shaped.now.case history.now others.now number)) }
+    requires answered { let r = question.now.run.now in
+        IsAnsweredRun (C.model r.callbacks.now) r.shaped.now r.history.now }
+    requires same { question.now.model.now ≡ C.model question.now.run.now.callbacks.now }
+    ensures allowed { let q = question.now in let r = q.run.now in IfOk result (λ found. IfSome found
+        (IsAllowed (C.model r.callbacks.now) r.shaped.now.case r.history.now q.others.now q.number)) }
     ensures new { IfOk result (λ found. IfSome found (λ value. spec.is_one_of value known.now ≡ false)) }
 {
-    let Some(value) = candidates.candidate(alloc, word)? else {
+    let Some(value) = candidates.candidate(question.run.alloc, word)? else {
         return Ok(None);
     };
     if is_answer_one_of(&value, known) {
         return Ok(None);
     }
-    let allowed = is_answer_allowed(
-        callbacks, alloc, model, shaped, history, others, number, &value,
-    )?;
+    let allowed = is_answer_allowed(question, &value)?;
     if allowed { Ok(Some(value)) } else { Ok(None) }
 }
 
@@ -100,153 +89,82 @@ fn answers_and_recorded_answer(
 /// Returns the proposed answer for an interleaving in which the recorded answer and the known ones are wrong, if it is
 /// new and the model allows it. The postcondition does not fault in such an interleaving.
 fn allowed_answer_beyond_known_answers<C: Callbacks, P: Candidates>(
-    callbacks: &C,
-    alloc: Global,
-    model: &Source,
-    shaped: &Shaped,
-    history: &History,
-    others: &[u32],
-    number: u32,
+    question: &AnswerQuestion<'_, C>,
     candidates: &P,
     known: &[Value],
 ) -> Result<Option<Value>, AllocError>
-    requires same { model.now ≡ C.model callbacks.now }
-    requires model { shaped.now.model ≡ C.model callbacks.now }
-    requires matches { matches (C.model callbacks.now) shaped.now.case history.now ≡ true }
-    requires answered { first_broken 1 (recorded history.now) ≡ None }
-    ensures allowed { IfOk result (λ found. IfSome found
-        (IsAllowed (C.model callbacks.now) shaped.now.case history.now others.now number)) }
+    requires answered { let r = question.now.run.now in
+        IsAnsweredRun (C.model r.callbacks.now) r.shaped.now r.history.now }
+    requires same { question.now.model.now ≡ C.model question.now.run.now.callbacks.now }
+    ensures allowed { let q = question.now in let r = q.run.now in IfOk result (λ found. IfSome found
+        (IsAllowed (C.model r.callbacks.now) r.shaped.now.case r.history.now q.others.now q.number)) }
     ensures new { IfOk result (λ found. IfSome found (λ value. spec.is_one_of value known.now ≡ false)) }
 {
-    let wrong = answers_and_recorded_answer(alloc, history, number, known)?;
-    let merge = interleaving_where_answers_are_wrong(
-        callbacks,
-        alloc,
-        model,
-        shaped,
-        history,
-        others,
-        number,
-        wrong.as_slice(),
-    )?;
-    let Some(word) = merge else {
-        return Ok(None);
-    };
-    new_allowed_candidate(
-        callbacks,
-        alloc,
-        model,
-        shaped,
-        history,
-        others,
-        number,
-        candidates,
-        word.as_slice(),
-        known,
-    )
+    let run = question.run;
+    let wrong = answers_and_recorded_answer(run.alloc, run.history, question.number, known)?;
+    match interleaving_where_answers_are_wrong(question, wrong.as_slice())? {
+        Some(word) => new_allowed_candidate(question, candidates, word.as_slice(), known),
+        None => Ok(None),
+    }
 }
 
 /// Returns a new answer that the model allows, if `left` is not 0: the proposed answer for the interleaving `word`, or
 /// else for one in which the postcondition does not fault.
 fn new_allowed_answer<C: Callbacks, P: Candidates>(
-    callbacks: &C,
-    alloc: Global,
-    model: &Source,
-    shaped: &Shaped,
-    history: &History,
-    others: &[u32],
-    number: u32,
+    question: &AnswerQuestion<'_, C>,
     candidates: &P,
     word: &[usize],
     known: &[Value],
     left: u32,
 ) -> Result<Option<Value>, AllocError>
-    requires same { model.now ≡ C.model callbacks.now }
-    requires model { shaped.now.model ≡ C.model callbacks.now }
-    requires matches { matches (C.model callbacks.now) shaped.now.case history.now ≡ true }
-    requires answered { first_broken 1 (recorded history.now) ≡ None }
-    ensures allowed { IfOk result (λ found. IfSome found
-        (IsAllowed (C.model callbacks.now) shaped.now.case history.now others.now number)) }
+    requires answered { let r = question.now.run.now in
+        IsAnsweredRun (C.model r.callbacks.now) r.shaped.now r.history.now }
+    requires same { question.now.model.now ≡ C.model question.now.run.now.callbacks.now }
+    ensures allowed { let q = question.now in let r = q.run.now in IfOk result (λ found. IfSome found
+        (IsAllowed (C.model r.callbacks.now) r.shaped.now.case r.history.now q.others.now q.number)) }
     ensures new { IfOk result (λ found. IfSome found (λ value. spec.is_one_of value known.now ≡ false)) }
     ensures few { IfOk result (λ found. IfSome found (λ value. 0 < left)) }
 {
     if left == 0 {
         return Ok(None);
     }
-    let first = new_allowed_candidate(
-        callbacks, alloc, model, shaped, history, others, number, candidates, word, known,
-    )?;
+    let first = new_allowed_candidate(question, candidates, word, known)?;
     if let Some(value) = first {
         return Ok(Some(value));
     }
-    allowed_answer_beyond_known_answers(
-        callbacks, alloc, model, shaped, history, others, number, candidates, known,
-    )
+    allowed_answer_beyond_known_answers(question, candidates, known)
 }
 
 /// Adds at most `left` answers that the model allows to `values`.
 fn add_allowed_answers<C: Callbacks, P: Candidates>(
-    callbacks: &C,
-    alloc: Global,
-    model: &Source,
-    shaped: &Shaped,
-    history: &History,
-    others: &[u32],
-    number: u32,
+    question: &AnswerQuestion<'_, C>,
     candidates: &P,
     mut values: Items<Value>,
     left: u32,
 ) -> Result<AllowedValues, AllocError>
-    requires same { model.now ≡ C.model callbacks.now }
-    requires model { shaped.now.model ≡ C.model callbacks.now }
-    requires matches { matches (C.model callbacks.now) shaped.now.case history.now ≡ true }
-    requires answered { first_broken 1 (recorded history.now) ≡ None }
-    requires allowed { All (IsAllowed (C.model callbacks.now) shaped.now.case history.now others.now number)
-        values }
-    requires distinct { AreDistinct values }
-    ensures allowed { IfOk result (λ found. All (IsAllowed (C.model callbacks.now) shaped.now.case history.now
-        others.now number) found.values) }
-    ensures all { IfOk result (λ found. IsWhetherAll (C.model callbacks.now) shaped.now.case history.now
-        others.now number found.all found.values) }
-    ensures distinct { IfOk result (λ found. AreDistinct found.values) }
+    requires answered { let r = question.now.run.now in
+        IsAnsweredRun (C.model r.callbacks.now) r.shaped.now r.history.now }
+    requires same { question.now.model.now ≡ C.model question.now.run.now.callbacks.now }
+    requires allowed { let q = question.now in let r = q.run.now in
+        AreAllowedOnce (C.model r.callbacks.now) r.shaped.now.case r.history.now q.others.now q.number values }
+    ensures allowed { let q = question.now in let r = q.run.now in IfOk result (λ found. AreAllowedOnce
+        (C.model r.callbacks.now) r.shaped.now.case r.history.now q.others.now q.number found.values) }
+    ensures all { let q = question.now in let r = q.run.now in IfOk result (λ found. IsWhetherAll
+        (C.model r.callbacks.now) r.shaped.now.case r.history.now q.others.now q.number found.all
+        found.values) }
     ensures few { IfOk result (λ found. length found.values ≤ length values + left) }
 {
     let known = values.as_slice();
-    let merge = interleaving_where_answers_are_wrong(
-        callbacks, alloc, model, shaped, history, others, number, known,
-    )?;
+    let merge = interleaving_where_answers_are_wrong(question, known)?;
     let Some(word) = merge else {
         return Ok(AllowedValues { values, all: true });
     };
-    let found = new_allowed_answer(
-        callbacks,
-        alloc,
-        model,
-        shaped,
-        history,
-        others,
-        number,
-        candidates,
-        word.as_slice(),
-        known,
-        left,
-    )?;
+    let found = new_allowed_answer(question, candidates, word.as_slice(), known, left)?;
     let Some(value) = found else {
         return Ok(AllowedValues { values, all: false });
     };
     values.push(value)?;
-    add_allowed_answers(
-        callbacks,
-        alloc,
-        model,
-        shaped,
-        history,
-        others,
-        number,
-        candidates,
-        values,
-        left - 1,
-    )
+    add_allowed_answers(question, candidates, values, left - 1)
 }
 
 /// Returns at most `at_most` answers that the model allows for command `number` of a core: answers that would be right
@@ -260,44 +178,33 @@ fn add_allowed_answers<C: Callbacks, P: Candidates>(
 /// interleaving, for example because the postcondition faults there, it is tried on one in which the postcondition is
 /// false of the recorded answer. The function takes at most four searches for each value, and four more.
 pub fn find_allowed_values<C: Callbacks, P: Candidates>(
-    callbacks: &C,
-    alloc: Global,
+    run: &RecordedRun<'_, C>,
     model: &Source,
-    shaped: &Shaped,
-    history: &History,
     core: &[u32],
     number: u32,
     candidates: &P,
     at_most: u32,
 ) -> Result<AllowedValues, AllocError>
-    requires same { model.now ≡ C.model callbacks.now }
-    requires model { shaped.now.model ≡ C.model callbacks.now }
-    requires matches { matches (C.model callbacks.now) shaped.now.case history.now ≡ true }
-    requires answered { first_broken 1 (recorded history.now) ≡ None }
-    ensures allowed { IfOk result (λ found. All (IsAllowed (C.model callbacks.now) shaped.now.case history.now
-        (reasons.without number core.now) number) found.values) }
-    ensures all { IfOk result (λ found. IsWhetherAll (C.model callbacks.now) shaped.now.case history.now
-        (reasons.without number core.now) number found.all found.values) }
-    ensures exact { IfOk result (λ found. (found.all ≡ true)
-        → HasOneAnswer (C.model callbacks.now) shaped.now.case history.now
-        (reasons.without number core.now) number
-        → HaveEachAllowed (C.model callbacks.now) shaped.now.case history.now
-        (reasons.without number core.now) number found.values) }
-    ensures distinct { IfOk result (λ found. AreDistinct found.values) }
+    requires answered { let r = run.now in IsAnsweredRun (C.model r.callbacks.now) r.shaped.now r.history.now }
+    requires same { model.now ≡ C.model run.now.callbacks.now }
+    ensures allowed { let r = run.now in IfOk result (λ found. AreAllowedOnce (C.model r.callbacks.now)
+        r.shaped.now.case r.history.now (reasons.without number core.now) number found.values) }
+    ensures all { let r = run.now in IfOk result (λ found. IsWhetherAll (C.model r.callbacks.now)
+        r.shaped.now.case r.history.now (reasons.without number core.now) number found.all found.values) }
+    ensures exact { let r = run.now in let m = C.model r.callbacks.now in IfOk result (λ found. (found.all ≡ true)
+        → HasOneAnswer m r.shaped.now.case r.history.now (reasons.without number core.now) number
+        → HaveEachAllowed m r.shaped.now.case r.history.now (reasons.without number core.now) number
+        found.values) }
     ensures few { IfOk result (λ found. length found.values ≤ at_most) }
 {
+    let alloc = run.alloc;
     let others = append_numbers_without(number, core, Vec::new(alloc))?;
     let values = Items::new(alloc);
-    add_allowed_answers(
-        callbacks,
-        alloc,
+    let question = AnswerQuestion {
+        run,
         model,
-        shaped,
-        history,
-        others.as_slice(),
+        others: others.as_slice(),
         number,
-        candidates,
-        values,
-        at_most,
-    )
+    };
+    add_allowed_answers(&question, candidates, values, at_most)
 }

@@ -1,39 +1,32 @@
 //! Cores: answers that cannot all be right.
-ghost use Rattle.std.specs.Prelude.{◌≡◌, ◌++◌, ◌∷◌, [], true, None, IfOk, MatchOption};
-ghost use Rattle.pst_case.specs.Matches.{matches};
-ghost use Rattle.pst_case.specs.Recorded.{recorded};
-ghost use Rattle.pst_judge.specs.Verdict.{first_broken};
-ghost use Rattle.pst_reasons.specs.Reasons.{AreRising, IsCore, IsImpossible, IsLeastTrue, IsNeeded, IsUnexplained, is_among, number_of_commands, without};
+ghost use Rattle.std.specs.Prelude.{◌≡◌, ◌++◌, ◌∷◌, [], true, IfOk, MatchOption};
+ghost use Rattle.pst_reasons.specs.Answered.{IsAnsweredRun};
+ghost use Rattle.pst_reasons.specs.Reasons.{AreRising, IsCore, IsCoreSoFar, IsImpossible, IsLeastTrue, IsUnexplained, is_among, number_of_commands, without};
 
 use crate::asked::SomePostconditions;
 use crate::numbers::{
     append_numbers_without, command_numbers_up_to, count_case_commands, empty_command_number_list,
     split_last_number,
 };
-use pst_case::{History, Shaped};
+use crate::recorded::RecordedRun;
 use pst_eval::Callbacks;
 use pst_judge::{Verdict, verdict_with_condition};
-use std::alloc::{AllocError, Global};
+use std::alloc::AllocError;
 
 /// Returns the lexicographically first interleaving that is true to its end if only the postconditions of the commands
 /// `first` and `rest` are checked. `None` if no interleaving is.
 fn interleaving_satisfying_commands<C: Callbacks>(
-    callbacks: &C,
-    alloc: Global,
-    shaped: &Shaped,
-    history: &History,
+    run: &RecordedRun<'_, C>,
     first: &[u32],
     rest: &[u32],
 ) -> Result<Option<Vec<usize>>, AllocError>
-    requires model { shaped.now.model ≡ C.model callbacks.now }
-    requires matches { matches (C.model callbacks.now) shaped.now.case history.now ≡ true }
-    requires answered { first_broken 1 (recorded history.now) ≡ None }
-    ensures { let m = C.model callbacks.now in let numbers = first.now ++ rest.now in IfOk result
-        (λ merge. MatchOption merge (IsImpossible m shaped.now.case history.now numbers)
-        (λ word. IsLeastTrue m shaped.now.case history.now numbers word.items)) }
+    requires { let r = run.now in IsAnsweredRun (C.model r.callbacks.now) r.shaped.now r.history.now }
+    ensures { let r = run.now in let m = C.model r.callbacks.now in let numbers = first.now ++ rest.now in
+        IfOk result (λ merge. MatchOption merge (IsImpossible m r.shaped.now.case r.history.now numbers)
+        (λ word. IsLeastTrue m r.shaped.now.case r.history.now numbers word.items)) }
 {
     let asked = SomePostconditions { first, rest };
-    match verdict_with_condition(callbacks, &asked, alloc, shaped, history)? {
+    match verdict_with_condition(run.callbacks, &asked, run.alloc, run.shaped, run.history)? {
         Verdict::Explained(word) => Ok(Some(word)),
         Verdict::Faulted(_) => Ok(None),
         Verdict::Unexplained(_) => Ok(None),
@@ -43,38 +36,18 @@ fn interleaving_satisfying_commands<C: Callbacks>(
 
 /// Leaves out `number` if the others stay impossible without it, or else inserts it before `core`.
 fn leave_command_out_of_core_if_possible<C: Callbacks>(
-    callbacks: &C,
-    alloc: Global,
-    shaped: &Shaped,
-    history: &History,
+    run: &RecordedRun<'_, C>,
     first: &[u32],
     number: u32,
     mut core: Vec<u32>,
 ) -> Result<Vec<u32>, AllocError>
-    requires model { shaped.now.model ≡ C.model callbacks.now }
-    requires matches { matches (C.model callbacks.now) shaped.now.case history.now ≡ true }
-    requires answered { first_broken 1 (recorded history.now) ≡ None }
-    requires impossible { IsImpossible (C.model callbacks.now) shaped.now.case history.now
-        ((first.now ++ number ∷ []) ++ core.items) }
-    requires needed { IsNeeded (C.model callbacks.now) shaped.now.case history.now (first.now ++ number ∷ [])
-        core.items }
-    requires rising { AreRising 0 (number_of_commands shaped.now.case)
-        ((first.now ++ number ∷ []) ++ core.items) }
-    ensures impossible { IfOk result (λ core. IsImpossible (C.model callbacks.now) shaped.now.case
-        history.now (first.now ++ core.items)) }
-    ensures needed { IfOk result (λ core. IsNeeded (C.model callbacks.now) shaped.now.case
-        history.now first.now core.items) }
-    ensures rising { IfOk result (λ core. AreRising 0 (number_of_commands shaped.now.case)
-        (first.now ++ core.items)) }
+    requires answered { let r = run.now in IsAnsweredRun (C.model r.callbacks.now) r.shaped.now r.history.now }
+    requires core { let r = run.now in IsCoreSoFar (C.model r.callbacks.now) r.shaped.now.case r.history.now
+        (first.now ++ number ∷ []) core.items }
+    ensures { let r = run.now in IfOk result (λ core. IsCoreSoFar (C.model r.callbacks.now) r.shaped.now.case
+        r.history.now first.now core.items) }
 {
-    let merge = interleaving_satisfying_commands(
-        callbacks,
-        alloc,
-        shaped,
-        history,
-        first,
-        core.as_slice(),
-    )?;
+    let merge = interleaving_satisfying_commands(run, first, core.as_slice())?;
     let Some(_word) = merge else {
         return Ok(core);
     };
@@ -84,31 +57,22 @@ fn leave_command_out_of_core_if_possible<C: Callbacks>(
 
 /// Leaves out each number of `first`, from the greatest down, if the others stay impossible without it.
 fn leave_commands_out_of_core_if_possible<C: Callbacks>(
-    callbacks: &C,
-    alloc: Global,
-    shaped: &Shaped,
-    history: &History,
+    run: &RecordedRun<'_, C>,
     first: &[u32],
     core: Vec<u32>,
 ) -> Result<Vec<u32>, AllocError>
-    requires model { shaped.now.model ≡ C.model callbacks.now }
-    requires matches { matches (C.model callbacks.now) shaped.now.case history.now ≡ true }
-    requires answered { first_broken 1 (recorded history.now) ≡ None }
-    requires impossible { IsImpossible (C.model callbacks.now) shaped.now.case history.now
-        (first.now ++ core.items) }
-    requires needed { IsNeeded (C.model callbacks.now) shaped.now.case history.now first.now core.items }
-    requires rising { AreRising 0 (number_of_commands shaped.now.case) (first.now ++ core.items) }
-    ensures core { IfOk result
-        (λ core. IsCore (C.model callbacks.now) shaped.now.case history.now core.items) }
-    ensures rising { IfOk result (λ core. AreRising 0 (number_of_commands shaped.now.case) core.items) }
+    requires answered { let r = run.now in IsAnsweredRun (C.model r.callbacks.now) r.shaped.now r.history.now }
+    requires core { let r = run.now in IsCoreSoFar (C.model r.callbacks.now) r.shaped.now.case r.history.now
+        first.now core.items }
+    ensures core { let r = run.now in IfOk result
+        (λ core. IsCore (C.model r.callbacks.now) r.shaped.now.case r.history.now core.items) }
+    ensures rising { IfOk result (λ core. AreRising 0 (number_of_commands run.now.shaped.now.case) core.items) }
 {
     let Some((number, first)) = split_last_number(first) else {
         return Ok(core);
     };
-    let core = leave_command_out_of_core_if_possible(
-        callbacks, alloc, shaped, history, first, *number, core,
-    )?;
-    leave_commands_out_of_core_if_possible(callbacks, alloc, shaped, history, first, core)
+    let core = leave_command_out_of_core_if_possible(run, first, *number, core)?;
+    leave_commands_out_of_core_if_possible(run, first, core)
 }
 
 /// Returns a core of a history that no interleaving explains: the numbers, in rising order, of commands whose
@@ -118,61 +82,37 @@ fn leave_commands_out_of_core_if_possible<C: Callbacks>(
 /// still impossible. So it prefers a core of commands with small numbers. Other commands may have answered anything.
 /// The core is empty if every interleaving faults in `init` or `next`, whatever was answered. The function takes one
 /// search for each command.
-pub fn minimal_core<C: Callbacks>(
-    callbacks: &C,
-    alloc: Global,
-    shaped: &Shaped,
-    history: &History,
-) -> Result<Vec<u32>, AllocError>
-    requires model { shaped.now.model ≡ C.model callbacks.now }
-    requires matches { matches (C.model callbacks.now) shaped.now.case history.now ≡ true }
-    requires answered { first_broken 1 (recorded history.now) ≡ None }
-    requires unexplained { IsUnexplained (C.model callbacks.now) shaped.now.case history.now }
-    ensures core { IfOk result
-        (λ core. IsCore (C.model callbacks.now) shaped.now.case history.now core.items) }
-    ensures rising { IfOk result (λ core. AreRising 0 (number_of_commands shaped.now.case) core.items) }
+pub fn minimal_core<C: Callbacks>(run: &RecordedRun<'_, C>) -> Result<Vec<u32>, AllocError>
+    requires answered { let r = run.now in IsAnsweredRun (C.model r.callbacks.now) r.shaped.now r.history.now }
+    requires unexplained { let r = run.now in IsUnexplained (C.model r.callbacks.now) r.shaped.now.case
+        r.history.now }
+    ensures core { let r = run.now in IfOk result
+        (λ core. IsCore (C.model r.callbacks.now) r.shaped.now.case r.history.now core.items) }
+    ensures rising { IfOk result (λ core. AreRising 0 (number_of_commands run.now.shaped.now.case) core.items) }
 {
-    let numbers = command_numbers_up_to(alloc, count_case_commands(shaped))?;
+    let alloc = run.alloc;
+    let numbers = command_numbers_up_to(alloc, count_case_commands(run.shaped))?;
     let core = empty_command_number_list(alloc);
-    leave_commands_out_of_core_if_possible(
-        callbacks,
-        alloc,
-        shaped,
-        history,
-        numbers.as_slice(),
-        core,
-    )
+    leave_commands_out_of_core_if_possible(run, numbers.as_slice(), core)
 }
 
 /// Returns the first interleaving that is true to its end if only the postconditions of `core` without `number` are
 /// checked.
 pub fn interleaving_without_core_command<C: Callbacks>(
-    callbacks: &C,
-    alloc: Global,
-    shaped: &Shaped,
-    history: &History,
+    run: &RecordedRun<'_, C>,
     core: &[u32],
     number: u32,
 ) -> Result<Vec<usize>, AllocError>
-    requires model { shaped.now.model ≡ C.model callbacks.now }
-    requires matches { matches (C.model callbacks.now) shaped.now.case history.now ≡ true }
-    requires answered { first_broken 1 (recorded history.now) ≡ None }
-    requires core { IsCore (C.model callbacks.now) shaped.now.case history.now core.now }
+    requires answered { let r = run.now in IsAnsweredRun (C.model r.callbacks.now) r.shaped.now r.history.now }
+    requires core { let r = run.now in IsCore (C.model r.callbacks.now) r.shaped.now.case r.history.now core.now }
     requires member { is_among number core.now ≡ true }
-    ensures { IfOk result (λ word. IsLeastTrue (C.model callbacks.now) shaped.now.case history.now
-        (without number core.now) word.items) }
+    ensures { let r = run.now in IfOk result (λ word. IsLeastTrue (C.model r.callbacks.now) r.shaped.now.case
+        r.history.now (without number core.now) word.items) }
 {
+    let alloc = run.alloc;
     let others = append_numbers_without(number, core, empty_command_number_list(alloc))?;
     let others = others.as_slice();
-    let Some(word) = interleaving_satisfying_commands(
-        callbacks,
-        alloc,
-        shaped,
-        history,
-        others,
-        &[],
-    )?
-    else {
+    let Some(word) = interleaving_satisfying_commands(run, others, &[])? else {
         unreachable!()
     };
     Ok(word)

@@ -11,6 +11,7 @@ mod asked_instead;
 mod cores;
 mod laws;
 mod numbers;
+mod recorded;
 mod searching;
 mod state_list;
 
@@ -19,5 +20,6 @@ pub use asked::SomePostconditions;
 pub use cores::{interleaving_without_core_command, minimal_core};
 pub use laws::equality_has_one_answer;
 pub use numbers::{append_numbers_without, count_branch_commands};
-pub use searching::{interleaving_where_answers_are_wrong, is_answer_allowed};
+pub use recorded::RecordedRun;
+pub use searching::{AnswerQuestion, interleaving_where_answers_are_wrong, is_answer_allowed};
 pub use state_list::states;

@@ -1,18 +1,16 @@
 //! The states along an interleaving of a history.
 ghost use Rattle.std.specs.Prelude.{◌≡◌, ◌∷◌, ◌++◌, ◌≤◌, [], List, true, None, IfOk, MatchOption, length};
-ghost use Rattle.pst_case.specs.Matches.{matches};
-ghost use Rattle.pst_case.specs.Recorded.{recorded};
 ghost use Rattle.pst_case.specs.Shape.{joined, result_types};
 ghost use Rattle.pst_judge.specs.Replay.{branch_outcome_asking};
 ghost use Rattle.pst_judge.specs.Running.{EventsFit, IsRealState};
-ghost use Rattle.pst_judge.specs.Verdict.{first_broken};
 ghost use Rattle.pst_model.specs.Fitting.{is_state};
+ghost use Rattle.pst_reasons.specs.Answered.{IsAnsweredRun};
 ghost use Rattle.pst_reasons.specs.States.{AllFit, OnLast, branch_states, event_states, onward, states_of, word_states};
 ghost use Rattle.pst_value.specs.declared.ty.Ty.{Ty};
 ghost use Rattle.pst_value.specs.declared.value.Value.{Value};
 
 use crate::numbers::count_branch_commands;
-use pst_case::{History, Shaped};
+use crate::recorded::RecordedRun;
 use pst_eval::Callbacks;
 use pst_grid::StepOutcome;
 use pst_judge::{
@@ -153,19 +151,18 @@ fn append_states_after_prefix<C: Callbacks, A: Condition>(
 /// and, if `word` has a letter for each command of the branches, those of the suffix. The list is empty if `init`
 /// faults.
 pub fn states<C: Callbacks, A: Condition>(
-    callbacks: &C,
+    run: &RecordedRun<'_, C>,
     condition: &A,
-    alloc: Global,
-    shaped: &Shaped,
-    history: &History,
     word: &[usize],
 ) -> Result<Items<Value>, AllocError>
-    requires model { shaped.now.model ≡ C.model callbacks.now }
-    requires matches { matches (C.model callbacks.now) shaped.now.case history.now ≡ true }
-    requires answered { first_broken 1 (recorded history.now) ≡ None }
-    ensures { let m = C.model callbacks.now in IfOk result
-        (λ states. states ≡ states_of m (A.asked condition.now m) shaped.now.case history.now word.now) }
+    requires { let r = run.now in IsAnsweredRun (C.model r.callbacks.now) r.shaped.now r.history.now }
+    ensures { let r = run.now in let m = C.model r.callbacks.now in IfOk result
+        (λ states. states ≡ states_of m (A.asked condition.now m) r.shaped.now.case r.history.now word.now) }
 {
+    let callbacks = run.callbacks;
+    let alloc = run.alloc;
+    let shaped = run.shaped;
+    let history = run.history;
     let _case = shaped.case();
     let results = history.recorded(alloc)?;
     let results = results.as_slice();

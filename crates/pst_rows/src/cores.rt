@@ -9,7 +9,7 @@ use pst_case::{History, Run};
 use pst_eval::Plain;
 use pst_judge::{Verdict, verdict};
 use pst_model::Typed;
-use pst_reasons::minimal_core;
+use pst_reasons::{RecordedRun, minimal_core};
 use pst_runs::read_runs;
 use pst_typing::{load, trees_after_model};
 use std::alloc::{AllocError, Global};
@@ -36,11 +36,18 @@ fn found_text(
     requires matches { matches typed.now run.now.shaped.case history.now ≡ true }
     requires verdict { IsVerdict typed.now run.now.shaped.case history.now found }
 {
+    let callbacks = Plain::new(typed);
+    let recorded = RecordedRun {
+        callbacks: &callbacks,
+        alloc,
+        shaped: &run.shaped,
+        history,
+    };
     let core = match found {
         Verdict::Explained(_) => return String::from_str(alloc, "explained"),
         Verdict::Broken(_) => return String::from_str(alloc, "broken"),
-        Verdict::Faulted(_) => minimal_core(&Plain::new(typed), alloc, &run.shaped, history)?,
-        Verdict::Unexplained(_) => minimal_core(&Plain::new(typed), alloc, &run.shaped, history)?,
+        Verdict::Faulted(_) => minimal_core(&recorded)?,
+        Verdict::Unexplained(_) => minimal_core(&recorded)?,
     };
     core_text(alloc, core.as_slice())
 }

@@ -11,9 +11,10 @@ returns-clause-allowed g c =
 
 pub returns-clause-exact : goal.returns-clause-exact
 returns-clause-exact g c =
-    let m = g.C.Callbacks.model c.args.callbacks.now in
+    let r = c.args.run.now in
+    let m = g.C.Callbacks.model r.callbacks.now in
     let others = without c.args.number c.args.core.now in
     let all = rw (c.as_slice.ensures.value, c.in_ok-others.ensures, c.new.ensures.items) at c.add_allowed_answers.ensures.all in
     if_ok_map _ _ c.add_allowed_answers.result
-    (λ found whether is one. let P : Bool → Type 0 = λ b. IsWhetherAll m c.args.shaped.now.case c.args.history.now others c.args.number b found.values in have_each_allowed m c.args.shaped.now.case c.args.history.now others c.args.number one found.values (subst P is whether))
+    (λ found whether is one. let P : Bool → Type 0 = λ b. IsWhetherAll m r.shaped.now.case r.history.now others c.args.number b found.values in have_each_allowed m r.shaped.now.case r.history.now others c.args.number one found.values (subst P is whether))
     all

@@ -1,4 +1,3 @@
-use Rattle.std.proofs.Common.{◌≡◌}
 use Rattle.pst_reasons.proofs.cores.interleaving_satisfying_commands.Goals as goal
 
 pub returns-in-Faulted : goal.returns-in-Faulted

@@ -5,16 +5,15 @@ use Rattle.pst_reasons.proofs.Rising.{numbers_rising}
 use Rattle.pst_reasons.specs.Reasons.{AreRising, IsImpossible, numbers_to, number_of_commands}
 use Rattle.pst_reasons.proofs.cores.minimal_core.Goals as goal
 
-pub leave_commands_out_of_core_if_possible-requires-clause-impossible : goal.leave_commands_out_of_core_if_possible-requires-clause-impossible
-leave_commands_out_of_core_if_possible-requires-clause-impossible g c =
-    let m = g.C.Callbacks.model c.args.callbacks.now in
-    let e : c.as_slice.result.now ++ c.empty_command_number_list-core.result.items ≡ numbers_to (number_of_commands c.args.shaped.now.case)
-    = ap (λ x. c.as_slice.result.now ++ x) c.empty_command_number_list-core.ensures ∙ append-nil c.as_slice.result.now ∙ c.as_slice.ensures.value ∙ c.in_ok-numbers.ensures ∙ ap numbers_to c.count_case_commands.ensures in
-    subst (IsImpossible m c.args.shaped.now.case c.args.history.now) (sym e) (all_impossible m c.args.shaped.now.case c.args.history.now c.requires.unexplained)
-
-pub leave_commands_out_of_core_if_possible-requires-clause-rising : goal.leave_commands_out_of_core_if_possible-requires-clause-rising
-leave_commands_out_of_core_if_possible-requires-clause-rising g c =
-    let last = number_of_commands c.args.shaped.now.case in
+pub leave_commands_out_of_core_if_possible-requires-clause-core : goal.leave_commands_out_of_core_if_possible-requires-clause-core
+leave_commands_out_of_core_if_possible-requires-clause-core g c =
+    let r = c.args.run.now in
+    let m = g.C.Callbacks.model r.callbacks.now in
+    let last = number_of_commands r.shaped.now.case in
     let e : c.as_slice.result.now ++ c.empty_command_number_list-core.result.items ≡ numbers_to last
     = ap (λ x. c.as_slice.result.now ++ x) c.empty_command_number_list-core.ensures ∙ append-nil c.as_slice.result.now ∙ c.as_slice.ensures.value ∙ c.in_ok-numbers.ensures ∙ ap numbers_to c.count_case_commands.ensures in
-    subst (AreRising 0 last) (sym e) (numbers_rising last)
+    record {
+      impossible = subst (IsImpossible m r.shaped.now.case r.history.now) (sym e) (all_impossible m r.shaped.now.case r.history.now c.requires.unexplained);
+      needed = λ number member. absurd (let n = rw c.empty_command_number_list-core.ensures at member in cc);
+      rising = subst (AreRising 0 last) (sym e) (numbers_rising last);
+    }

@@ -1,4 +1,4 @@
-use Rattle.std.proofs.Common.{◌≡◌, ◌+◌, ◌≤◌, length, ap, ◌∙◌, arith}
+use Rattle.std.proofs.Common.{◌≡◌, length, ap, ◌∙◌, arith}
 use Rattle.pst_case.specs.Shape.{joined}
 use Rattle.pst_judge.proofs.Fitted.{prefix_within, branches_within, suffix_within}
 use Rattle.pst_reasons.proofs.numbers.count_case_commands.Goals as goal

@@ -8,7 +8,9 @@ use Rattle.pst_reasons.proofs.searching.interleaving_where_answers_are_wrong.Goa
 
 pub returns : goal.returns
 returns g c =
-    let m = g.C.Callbacks.model c.args.callbacks.now in
-    let Ends : Source → List ℕ → Type 0 = λ x v. EndsAsking m (λ s e. asks_at c.args.number (λ t d. none_is_right x t d c.args.answers.now) c.args.others.now m s e) c.args.shaped.now.case c.args.history.now AllTrue v in
+    let q = c.args.question.now in
+    let r = q.run.now in
+    let m = g.C.Callbacks.model r.callbacks.now in
+    let Ends : Source → List ℕ → Type 0 = λ x v. EndsAsking m (λ s e. asks_at q.number (λ t d. none_is_right x t d c.args.answers.now) q.others.now m s e) r.shaped.now.case r.history.now AllTrue v in
     let P : Source → Type 0 = λ x. IfOk c.explaining_interleaving.result (λ merge. MatchOption merge ((v : List ℕ) → Ends x v → ⊥) (λ word. Ends x word.items)) in
     subst P c.requires.same c.explaining_interleaving.ensures

@@ -7,7 +7,9 @@ use Rattle.pst_reasons.proofs.searching.is_answer_allowed.Goals as goal
 
 pub returns-in-None : goal.returns-in-None
 returns-in-None g c =
-    let m = g.C.Callbacks.model c.args.callbacks.now in
-    let P : Source → Type 0 = λ x. (v : List ℕ) → EndsAsking m (λ s e. asks_at c.args.number (λ t d. is_right x t d c.args.answer.now) c.args.others.now m s e) c.args.shaped.now.case c.args.history.now AllTrue v → ⊥ in
+    let q = c.args.question.now in
+    let r = q.run.now in
+    let m = g.C.Callbacks.model r.callbacks.now in
+    let P : Source → Type 0 = λ x. (v : List ℕ) → EndsAsking m (λ s e. asks_at q.number (λ t d. is_right x t d c.args.answer.now) q.others.now m s e) r.shaped.now.case r.history.now AllTrue v → ⊥ in
     let none = subst P c.requires.same (rw c.in-None.is at c.in_ok-_word.ensures) in
     λ allowed. none allowed.0 allowed.1

@@ -1,4 +1,4 @@
-use Rattle.std.proofs.Common.{◌≡◌, ◌++◌, Bool, true, refl, subst, Ok}
+use Rattle.std.proofs.Common.{Bool, true, refl, subst, Ok}
 use Rattle.std.specs.Prelude.{IfOk, if◌then◌else◌}
 use Rattle.pst_judge.specs.Replay.{SaysTruth, post_asked}
 use Rattle.pst_reasons.proofs.FewerAsked.{truth_is}
