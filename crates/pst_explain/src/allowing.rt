@@ -155,7 +155,7 @@ pub fn allowed_answers_for_explanation<C: Callbacks>(
         call,
     };
     let shaped = &scene.run.shaped;
-    callbacks.set_further_calls_of_next(1);
+    callbacks.set_extra_calls_charged_to_next(1);
     let found = find_allowed_values(
         callbacks,
         alloc,
@@ -167,6 +167,6 @@ pub fn allowed_answers_for_explanation<C: Callbacks>(
         &wanted,
         MOST,
     )?;
-    callbacks.set_further_calls_of_next(0);
+    callbacks.set_extra_calls_charged_to_next(0);
     Ok(found)
 }
