@@ -105,12 +105,12 @@ fn print_help_or_arguments_error<R: Runtime + AllocGlobal>(
     error: &Error,
 ) -> Status {
     if error.kind() == ErrorKind::OutOfMemory {
-        return refused::report_out_of_memory(rt);
+        return refused::print_memory_refusal(rt);
     }
     if !error.use_stderr() {
         return match error.print(rt) {
             Ok(()) => Status::Accepted,
-            Err(error) => outputs::report_lost_output_unless_pipe_closed(
+            Err(error) => outputs::print_lost_output_unless_pipe_closed(
                 rt,
                 rt.alloc(),
                 None,
@@ -119,7 +119,7 @@ fn print_help_or_arguments_error<R: Runtime + AllocGlobal>(
         };
     }
     let Ok(text) = arguments_error_text(rt.alloc(), started, error) else {
-        return refused::report_out_of_memory(rt);
+        return refused::print_memory_refusal(rt);
     };
     match eprint!(rt; "{text}") {
         Ok(()) => Status::Refused,
@@ -131,7 +131,7 @@ fn print_help_or_arguments_error<R: Runtime + AllocGlobal>(
 fn print_to_standard_output<R: Runtime + AllocGlobal>(rt: &R, text: &str) -> Status {
     match print!(rt; "{text}") {
         Ok(()) => Status::Accepted,
-        Err(error) => outputs::report_lost_output_unless_pipe_closed(rt, rt.alloc(), None, &error),
+        Err(error) => outputs::print_lost_output_unless_pipe_closed(rt, rt.alloc(), None, &error),
     }
 }
 
@@ -152,13 +152,13 @@ pub fn parse_arguments<'a, R: Runtime + AllocGlobal>(
     started: &'a [String],
 ) -> Result<ArgMatches<'a>, Status> {
     let Ok(command) = words::clap_command_for_program(rt.alloc()) else {
-        return Err(refused::report_out_of_memory(rt));
+        return Err(refused::print_memory_refusal(rt));
     };
     match command.try_get_matches_from(started) {
         Ok(matches) if matches.subcommand_name() == Some("verdicts") => {
             Err(print_to_standard_output(rt, help::VERDICTS))
         }
-        Ok(matches) if words::arguments_name_client(&matches) => Err(refuse_client_without_launcher(
+        Ok(matches) if words::has_client_argument(&matches) => Err(refuse_client_without_launcher(
             rt,
         )),
         Ok(matches) => Ok(matches),
@@ -172,7 +172,7 @@ pub fn program_arguments<R: Runtime + AllocGlobal>(rt: &R) -> Result<Vec<String>
     let words = match env::args(rt) {
         Ok(words) => words,
         Err(error) if error.kind() == io::ErrorKind::OutOfMemory => return Err(
-            refused::report_out_of_memory(rt),
+            refused::print_memory_refusal(rt),
         ),
         Err(_) => {
             return match eprintln!(rt; "error: an argument is not UTF-8") {
@@ -183,6 +183,6 @@ pub fn program_arguments<R: Runtime + AllocGlobal>(rt: &R) -> Result<Vec<String>
     };
     match words.collect(rt.alloc()) {
         Ok(words) => Ok(words),
-        Err(_) => Err(refused::report_out_of_memory(rt)),
+        Err(_) => Err(refused::print_memory_refusal(rt)),
     }
 }

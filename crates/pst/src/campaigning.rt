@@ -3,11 +3,13 @@
 ghost use Rattle.std.specs.Prelude.{◌≡◌, false};
 ghost use Rattle.pst_trial.specs.Settings.{AreInRange};
 
+use crate::campaign_progress::ProgressDisplay;
+use crate::context::SubcommandContext;
 use crate::page::CampaignPageOptions;
-use crate::progress::ProgressDisplay;
 use crate::saving::FailureSaver;
+use crate::systems::system_name_from_arguments;
 use crate::watching::BothWatchers;
-use crate::{least, warned, words};
+use crate::{campaign_messages, warnings, words};
 use clap::ArgMatches;
 use pst_campaign::{EarlyStop, StopCondition};
 use pst_cli::{
@@ -30,7 +32,7 @@ struct CampaignOptions<'a> {
     ending: &'a EarlyStop,
     /// Whether standard error is a terminal.
     is_terminal: bool,
-    arguments_select_json: bool,
+    is_json_selected: bool,
     is_quiet: bool,
     page: CampaignPageOptions<'a>,
     input: Input<'a>,
@@ -45,15 +47,15 @@ fn run_campaign_with_progress_on_terminal<
     alloc: Global,
     settings: Settings,
     systems: Vec<BoxedSystem>,
-    how: CampaignOptions<'_>,
+    options: CampaignOptions<'_>,
     notes: &mut CampaignNotes,
     out: &mut W,
 ) -> Status
     requires ranges { AreInRange settings }
     requires stands { W.broken out.old ≡ false }
 {
-    let (ending, input) = (how.ending, how.input.bytes);
-    if how.is_terminal && !how.is_quiet {
+    let (ending, input) = (options.ending, options.input.bytes);
+    if options.is_terminal && !options.is_quiet {
         if let Ok(display) = ProgressDisplay::begin(rt, alloc, settings.trials as u64) {
             let both = BothWatchers {
                 first: display.progress(),
@@ -69,7 +71,8 @@ fn run_campaign_with_progress_on_terminal<
     run_campaign_and_take_notes(rt, alloc, input, settings, systems, ending, notes, out)
 }
 
-/// Writes the report of a campaign. `Err`: it is not written, and the status is the one that the program ends with.
+/// Writes the report of a campaign, or `refused memory` if it is empty. `Err`: it is not written, and the status is the
+/// one that the program ends with.
 fn write_campaign_report_or_memory_refusal<W: Sink>(
     report: &[u8],
     status: Status,
@@ -127,17 +130,17 @@ fn run_campaign_with_page_and_messages<
     alloc: Global,
     settings: Settings,
     systems: Vec<BoxedSystem>,
-    how: CampaignOptions<'_>,
+    options: CampaignOptions<'_>,
     notes: &mut CampaignNotes,
     out: &mut W,
 ) -> Status
     requires ranges { AreInRange settings }
     requires stands { W.broken out.old ≡ false }
 {
-    let (page, input) = (how.page, how.input.bytes);
-    if how.is_quiet && !how.arguments_select_json {
+    let (page, input) = (options.page, options.input.bytes);
+    if options.is_quiet && !options.is_json_selected {
         let status = run_campaign_with_progress_on_terminal(
-            rt, alloc, settings, systems, how, notes, out,
+            rt, alloc, settings, systems, options, notes, out,
         );
         return status.or_worse(page.write(rt, alloc, input, notes));
     }
@@ -147,11 +150,11 @@ fn run_campaign_with_page_and_messages<
         alloc,
         settings,
         systems,
-        how,
+        options,
         notes,
         &mut report,
     );
-    let status = if how.arguments_select_json {
+    let status = if options.is_json_selected {
         write_campaign_or_refusal_json_object(alloc, status, input, notes.report.as_ref(), out)
     } else {
         match write_campaign_report_or_memory_refusal(report.into_inner().as_slice(), status, out) {
@@ -160,10 +163,10 @@ fn run_campaign_with_page_and_messages<
         }
     };
     let status = status.or_worse(page.write(rt, alloc, input, notes));
-    if !how.is_quiet {
-        least::print_why_campaign_failed_to_stderr(rt, alloc, settings, input, notes);
+    if !options.is_quiet {
+        campaign_messages::print_campaign_explanations_to_stderr(rt, alloc, settings, input, notes);
         if notes.first_genfault.is_none() {
-            warned::print_warnings_to_stderr(rt, alloc, how.input.files, input);
+            warnings::print_warnings_to_stderr(rt, alloc, options.input.files, input);
         }
     }
     status
@@ -191,27 +194,31 @@ fn run_campaign_and_save_failures<
     settings: Settings,
     systems: Vec<BoxedSystem>,
     saving: &FailureSaver<'_>,
-    how: CampaignOptions<'_>,
+    options: CampaignOptions<'_>,
     out: &mut W,
 ) -> Status
     requires ranges { AreInRange settings }
     requires stands { W.broken out.old ≡ false }
 {
-    let mut notes = CampaignNotes::keeping(how.page.is_written(), true);
+    let mut notes = CampaignNotes::keeping(options.page.is_page_wanted(), true);
     let status = run_campaign_with_page_and_messages(
         rt,
         rt.alloc(),
         settings,
         systems,
-        how,
+        options,
         &mut notes,
         out,
     );
-    status.or_worse(save_campaign_failures_if_kept(rt, saving, &notes, how.is_quiet))
+    status.or_worse(save_campaign_failures_if_kept(rt, saving, &notes, options.is_quiet))
 }
 
 /// Writes to standard error that the file that ends the campaign is there before it begins, if that is so.
-fn warn_if_stop_file_exists<R: Eprint>(rt: &R, words: &ArgMatches<'_>, ending: &EarlyStop) {
+fn print_warning_if_stop_file_exists<R: Eprint>(
+    rt: &R,
+    words: &ArgMatches<'_>,
+    ending: &EarlyStop,
+) {
     if let Some(name) = words.get_str("stop-file") {
         if ending.is_over() {
             let _ = eprintln!(rt; "pst: {name} is there already: no trial was begun");
@@ -227,39 +234,40 @@ pub fn run_campaign_subcommand<
     R: Threads + Wait + Sync + Eprint + Files + AllocGlobal + Copy + Drop + Send + 'static,
 >(
     rt: &R,
+    context: SubcommandContext<'_, '_>,
     words: &ArgMatches<'_>,
-    name: &str,
     systems: Vec<BoxedSystem>,
-    ending: &EarlyStop,
-    is_terminal: bool,
     input: Input<'_>,
     out: &mut W,
 ) -> Status
     requires { W.broken out.old ≡ false }
 {
+    let name = system_name_from_arguments(words);
     if systems.is_empty() {
         return refuse_text(Absence::NoSystem(name), out);
     }
     let Some(settings) = words::campaign_settings_from_arguments(words) else {
         return Status::Refused;
     };
-    let how = CampaignOptions {
-        ending,
-        is_terminal,
-        arguments_select_json: words::arguments_select_json(words),
+    let options = CampaignOptions {
+        ending: context.ending,
+        is_terminal: context.terminals.errors,
+        is_json_selected: words::is_json_selected(words),
         is_quiet: words.get_flag("quiet"),
         page: CampaignPageOptions::from_arguments(words, input),
         input,
     };
-    if !how.is_quiet {
-        warn_if_stop_file_exists(rt, words, ending);
+    if !options.is_quiet {
+        print_warning_if_stop_file_exists(rt, words, context.ending);
     }
     if let Some(folder) = words.get_str("save") {
         return match FailureSaver::begin_by_making_folder(rt, words, folder, settings.seed, name) {
-            Ok(saving) => run_campaign_and_save_failures(rt, settings, systems, &saving, how, out),
+            Ok(saving) => run_campaign_and_save_failures(
+                rt, settings, systems, &saving, options, out,
+            ),
             Err(status) => status,
         };
     }
-    let mut notes = CampaignNotes::keeping(how.page.is_written(), false);
-    run_campaign_with_page_and_messages(rt, rt.alloc(), settings, systems, how, &mut notes, out)
+    let mut notes = CampaignNotes::keeping(options.page.is_page_wanted(), false);
+    run_campaign_with_page_and_messages(rt, rt.alloc(), settings, systems, options, &mut notes, out)
 }

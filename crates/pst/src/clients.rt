@@ -15,7 +15,7 @@ use std::sync::{Arc, Wait};
 pub type SharedClientNotes = Arc<Notes, Global>;
 
 /// Returns an empty list of notes.
-pub fn empty_client_notes(alloc: Global) -> Result<SharedClientNotes, AllocError> {
+pub fn new_client_notes(alloc: Global) -> Result<SharedClientNotes, AllocError> {
     Ok(Arc::new(alloc, Notes::new(alloc)?)?)
 }
 
@@ -59,7 +59,7 @@ pub fn open_boxed_clients_for_worker<H: Wait + Files + Drop, R: Files + AllocGlo
 
 /// Writes to standard error that the pipes of the clients that the arguments name cannot be opened, and why, unless the
 /// arguments forbid it.
-pub fn report_unopened_pipes_unless_quiet<R: Eprint + AllocGlobal>(
+pub fn print_unopened_pipes_unless_quiet<R: Eprint + AllocGlobal>(
     rt: &R,
     words: &ArgMatches<'_>,
     name: &str,

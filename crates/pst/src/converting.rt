@@ -30,7 +30,7 @@ pub fn clap_command_for_convert<'a>(alloc: Global) -> Result<Command<'a>, AllocE
         .arg(words::quiet_option(alloc))
 }
 
-/// Writes the items of the input in the form that the words ask for.
+/// Writes the items of the input in the form that the arguments select.
 pub fn run_convert_subcommand<W: Sink>(
     alloc: Global,
     words: &ArgMatches<'_>,

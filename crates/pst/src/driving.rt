@@ -1,9 +1,11 @@
 //! `pst run`.
 ghost use Rattle.std.specs.Prelude.{◌≡◌, false};
 
-use crate::telling::StepsDisplay;
-use crate::words::arguments_select_json;
-use crate::{explained, overheard};
+use crate::context::SubcommandContext;
+use crate::item_progress::ItemProgressDisplay;
+use crate::systems::system_name_from_arguments;
+use crate::words::is_json_selected;
+use crate::{misfits, run_explanation};
 use clap::ArgMatches;
 use pst_case::Run;
 use pst_cli::{
@@ -18,7 +20,7 @@ use std::sync::Wait;
 use std::thread::Threads;
 
 /// Writes to standard error why the first broken run is broken, and how many other runs are broken.
-fn explain_first_broken_run_and_count_rest<R: Eprint>(
+fn print_first_broken_run_and_count_rest<R: Eprint>(
     rt: &R,
     alloc: Global,
     input: &[u8],
@@ -34,7 +36,7 @@ fn explain_first_broken_run_and_count_rest<R: Eprint>(
     let Ok(heading) = format!(in alloc; "item {item} is broken:") else {
         return;
     };
-    explained::print_run_explanation_to_stderr(
+    run_explanation::print_run_explanation_to_stderr(
         rt,
         alloc,
         heading.as_str(),
@@ -54,9 +56,9 @@ fn explain_first_broken_run_and_count_rest<R: Eprint>(
 struct DriveOptions {
     /// How often each is driven; `None`: once, without a count of drives.
     repeats: Option<u32>,
-    arguments_select_json: bool,
-    /// Whether a line on standard error says how far it is.
-    is_told: bool,
+    is_json_selected: bool,
+    /// Whether standard error displays the progress.
+    has_progress_line: bool,
 }
 
 /// Drives each item of the input, and writes the runs and their verdicts.
@@ -64,7 +66,7 @@ fn drive_items_of_input<W: Sink, R: Threads + Wait>(
     rt: &R,
     alloc: Global,
     system: &mut BoxedSystem,
-    how: DriveOptions,
+    options: DriveOptions,
     input: &[u8],
     counts: &mut ItemResultCounts,
     steps: &ProgressCounter,
@@ -72,10 +74,19 @@ fn drive_items_of_input<W: Sink, R: Threads + Wait>(
 ) -> Status
     requires { W.broken out.old ≡ false }
 {
-    if how.arguments_select_json {
-        return run_json(rt, alloc, input, system, how.repeats, counts, steps, out);
+    if options.is_json_selected {
+        return run_json(
+            rt,
+            alloc,
+            input,
+            system,
+            options.repeats,
+            counts,
+            steps,
+            out,
+        );
     }
-    match how.repeats {
+    match options.repeats {
         Some(repeats) if repeats >= 1 => {
             run_repeatedly(rt, alloc, input, system, repeats, counts, steps, out)
         }
@@ -92,7 +103,7 @@ fn drive_items_with_progress_and_messages<
     rt: &R,
     alloc: Global,
     system: &mut BoxedSystem,
-    how: DriveOptions,
+    options: DriveOptions,
     misfits: &Misfits,
     input: &[u8],
     counts: &mut ItemResultCounts,
@@ -100,8 +111,8 @@ fn drive_items_with_progress_and_messages<
 ) -> Status
     requires { W.broken out.old ≡ false }
 {
-    overheard::set_model_of_misfits_if_it_loads(alloc, misfits, input);
-    let Ok(telling) = StepsDisplay::begin(rt, alloc, how.is_told, "run") else {
+    misfits::set_model_of_misfits_if_it_loads(alloc, misfits, input);
+    let Ok(telling) = ItemProgressDisplay::begin(rt, alloc, options.has_progress_line, "run") else {
         return refuse_text(Absence::NoMemory, out);
     };
     let mut report = Out::new(Vec::new(alloc));
@@ -109,7 +120,7 @@ fn drive_items_with_progress_and_messages<
         rt,
         alloc,
         system,
-        how,
+        options,
         input,
         counts,
         telling.steps(),
@@ -124,24 +135,21 @@ fn drive_items_with_progress_and_messages<
     if put_all(report.as_slice(), out).is_err() {
         return Status::Lost;
     }
-    overheard::print_misfits_to_stderr(rt, alloc, misfits);
-    explain_first_broken_run_and_count_rest(rt, alloc, input, counts);
+    misfits::print_misfits_to_stderr(rt, alloc, misfits);
+    print_first_broken_run_and_count_rest(rt, alloc, input, counts);
     status
 }
 
 /// Drives the items of the input on a system, if there is one. If there is a list of misfits, it then writes to
-/// standard error what is wrong with the runs; if `is_told`, a line of it says meanwhile how many items are run.
+/// standard error what is wrong with the runs, and displays the progress if that is a terminal.
 pub fn drive_items_on_system_or_refuse<
     W: Sink,
-    R: Threads + Wait + Sync + Eprint + Copy + Drop + Send + 'static,
+    R: Threads + Wait + Sync + Eprint + AllocGlobal + Copy + Drop + Send + 'static,
 >(
     rt: &R,
-    alloc: Global,
+    context: SubcommandContext<'_, '_>,
     words: &ArgMatches<'_>,
-    name: &str,
     mut systems: Vec<BoxedSystem>,
-    misfits: Option<&Misfits>,
-    is_told: bool,
     input: &[u8],
     counts: &mut ItemResultCounts,
     out: &mut W,
@@ -149,20 +157,21 @@ pub fn drive_items_on_system_or_refuse<
     requires { W.broken out.old ≡ false }
 {
     let Some(mut system) = systems.pop() else {
-        return refuse_text(Absence::NoSystem(name), out);
+        return refuse_text(Absence::NoSystem(system_name_from_arguments(words)), out);
     };
-    let how = DriveOptions {
+    let alloc = rt.alloc();
+    let options = DriveOptions {
         repeats: words.get_one("repeats"),
-        arguments_select_json: arguments_select_json(words),
-        is_told,
+        is_json_selected: is_json_selected(words),
+        has_progress_line: context.terminals.errors,
     };
-    match misfits {
+    match context.misfits {
         Some(misfits) => {
             drive_items_with_progress_and_messages(
                 rt,
                 alloc,
                 &mut system,
-                how,
+                options,
                 misfits,
                 input,
                 counts,
@@ -173,7 +182,7 @@ pub fn drive_items_on_system_or_refuse<
             rt,
             alloc,
             &mut system,
-            how,
+            options,
             input,
             counts,
             &ProgressCounter::new(),

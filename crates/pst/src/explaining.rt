@@ -2,7 +2,7 @@
 
 ghost use Rattle.std.specs.Prelude.{◌≡◌, false};
 
-use crate::telling::StepsDisplay;
+use crate::item_progress::ItemProgressDisplay;
 use crate::terminal::{self, LEAST_WIDTH, MOST_WIDTH, Terminals};
 use crate::{help, words};
 use clap::builder::ValueParser;
@@ -131,8 +131,8 @@ fn max_items_from_arguments(words: &ArgMatches<'_>) -> usize {
     }
 }
 
-/// Whether the words ask for graphs.
-fn arguments_select_dot_graph(words: &ArgMatches<'_>) -> bool {
+/// Whether the arguments select graphs.
+fn is_dot_graph_selected(words: &ArgMatches<'_>) -> bool {
     words.get_flag("dot") || words.get_str("format") == Some("dot")
 }
 
@@ -150,13 +150,13 @@ fn colored_or_plain_text_form<R: Env + AllocGlobal>(
     }
 }
 
-/// The form of explanations that the words ask for.
+/// The form of explanations that the arguments select.
 fn explanation_form_from_arguments<R: Env + AllocGlobal>(
     rt: &R,
     words: &ArgMatches<'_>,
     is_terminal: bool,
 ) -> ExplanationForm {
-    if arguments_select_dot_graph(words) {
+    if is_dot_graph_selected(words) {
         return ExplanationForm::Dot {
             is_whole: words.get_flag("all"),
         };
@@ -168,19 +168,19 @@ fn explanation_form_from_arguments<R: Env + AllocGlobal>(
     }
 }
 
-/// Explains the chosen items, with a line on standard error that says how far it is if that is a terminal.
+/// Explains the chosen items, and displays the progress on standard error if `has_progress_line`.
 fn explain_with_progress_line<
     W: Sink,
     R: Threads + Wait + Sync + Eprint + AllocGlobal + Copy + Drop + Send + 'static,
->(rt: &R, input: &[u8], asked: ExplainOptions<'_>, is_told: bool, out: &mut W) -> Status
+>(rt: &R, input: &[u8], options: ExplainOptions<'_>, has_progress_line: bool, out: &mut W) -> Status
     requires { W.broken out.old ≡ false }
 {
     let alloc = rt.alloc();
-    let Ok(telling) = StepsDisplay::begin(rt, alloc, is_told, "explained") else {
+    let Ok(telling) = ItemProgressDisplay::begin(rt, alloc, has_progress_line, "explained") else {
         return refuse_text(Absence::NoMemory, out);
     };
     let mut text = Out::new(Vec::new(alloc));
-    let status = explain_with_progress(rt, alloc, input, asked, telling.steps(), &mut text);
+    let status = explain_with_progress(rt, alloc, input, options, telling.steps(), &mut text);
     telling.end(rt);
     let text = text.into_inner();
     // Each status but `Accepted` has a text: there is none only if an allocation of the buffer failed.
@@ -203,7 +203,7 @@ pub fn run_explain_subcommand<
 {
     let Input { files, bytes } = input;
     let is_one = !words.get_flag("failures") && words.get_str("max").is_none();
-    if arguments_select_dot_graph(words) && is_one {
+    if is_dot_graph_selected(words) && is_one {
         return graph_text(
             rt,
             rt.alloc(),
@@ -213,12 +213,12 @@ pub fn run_explain_subcommand<
             out,
         );
     }
-    let asked = ExplainOptions {
+    let options = ExplainOptions {
         files,
         chosen: items_to_explain_from_arguments(words),
         most: max_items_from_arguments(words),
         form: explanation_form_from_arguments(rt, words, terminals.output),
     };
-    let is_told = terminals.errors && !words.get_flag("quiet");
-    explain_with_progress_line(rt, bytes, asked, is_told, out)
+    let has_progress_line = terminals.errors && !words.get_flag("quiet");
+    explain_with_progress_line(rt, bytes, options, has_progress_line, out)
 }

@@ -39,11 +39,11 @@ struct FormatOptions {
     reading: InputOptions,
 }
 
-/// Prints a text on standard output. If it cannot be printed, standard error says so.
-fn print_formatted_model_text<R: Runtime + AllocGlobal>(rt: &R, text: &[u8]) -> Status {
+/// Prints a text on standard output. If it cannot be printed, standard error says so, unless the pipe is closed.
+fn print_formatted_text<R: Runtime + AllocGlobal>(rt: &R, text: &[u8]) -> Status {
     match io::writer(rt).write_all(text) {
         Ok(()) => Status::Accepted,
-        Err(error) => outputs::report_lost_output_unless_pipe_closed(rt, rt.alloc(), None, &error),
+        Err(error) => outputs::print_lost_output_unless_pipe_closed(rt, rt.alloc(), None, &error),
     }
 }
 
@@ -97,7 +97,7 @@ fn write_copy_then_file_then_remove_copy<R: Files>(
 }
 
 /// Says why a file was not rewritten.
-fn report_unwritten_file<R: Eprint>(
+fn print_rewrite_error_to_stderr<R: Eprint>(
     rt: &R,
     alloc: Global,
     name: &str,
@@ -123,34 +123,34 @@ fn report_unwritten_file<R: Eprint>(
 /// Rewrites a file.
 fn rewrite_file<R: Runtime + AllocGlobal>(rt: &R, name: &str, text: &[u8]) -> Status {
     let Ok(copy) = format!(in rt.alloc(); "{name}.pst-fmt") else {
-        return refused::report_out_of_memory(rt);
+        return refused::print_memory_refusal(rt);
     };
     match write_copy_then_file_then_remove_copy(rt, name, copy.as_str(), text) {
         Ok(()) => Status::Accepted,
         Err(why) => {
-            report_unwritten_file(rt, rt.alloc(), name, copy.as_str(), &why);
+            print_rewrite_error_to_stderr(rt, rt.alloc(), name, copy.as_str(), &why);
             Status::Lost
         }
     }
 }
 
-/// Handles the new text of a file. If `how` only checks, it prints the file's name if the text differs. Otherwise it
+/// Handles the new text of a file. If `options` only checks, it prints the file's name if the text differs. Otherwise it
 /// prints the text, for standard input, or rewrites the file if the text differs.
 fn check_print_or_rewrite_file<R: Runtime + AllocGlobal>(
     rt: &R,
     file: &SourceFile<'_>,
     text: &[u8],
-    how: FormatOptions,
+    options: FormatOptions,
 ) -> Status {
     let name = file.name;
     let is_same = text == file.bytes.as_slice();
-    if how.only_checks {
+    if options.only_checks {
         if is_same {
             return Status::Accepted;
         }
         return match println!(rt; "{name}") {
             Ok(()) => Status::Failed,
-            Err(error) => outputs::report_lost_output_unless_pipe_closed(
+            Err(error) => outputs::print_lost_output_unless_pipe_closed(
                 rt,
                 rt.alloc(),
                 None,
@@ -159,7 +159,7 @@ fn check_print_or_rewrite_file<R: Runtime + AllocGlobal>(
         };
     }
     if name == STANDARD_INPUT {
-        print_formatted_model_text(rt, text)
+        print_formatted_text(rt, text)
     } else if is_same {
         Status::Accepted
     } else {
@@ -167,22 +167,22 @@ fn check_print_or_rewrite_file<R: Runtime + AllocGlobal>(
     }
 }
 
-/// Refuses a file that cannot be read, with a message unless `how` is quiet.
-fn print_refusal_of_unreadable_file<R: Runtime + AllocGlobal>(
+/// Refuses a file that cannot be read, with a message unless `options` is quiet.
+fn print_refusal_of_malformed_file<R: Runtime + AllocGlobal>(
     rt: &R,
     files: &[SourceFile<'_>],
     bytes: &[u8],
     fault: SexprFault,
-    how: FormatOptions,
+    options: FormatOptions,
 ) -> Status {
     if fault.kind == FaultKind::NoMemory {
-        return refused::report_out_of_memory(rt);
+        return refused::print_memory_refusal(rt);
     }
     let refusal = Refusal::Unread(fault);
     if let Err(error) = println!(rt; "refused {refusal}") {
-        return outputs::report_lost_output_unless_pipe_closed(rt, rt.alloc(), None, &error);
+        return outputs::print_lost_output_unless_pipe_closed(rt, rt.alloc(), None, &error);
     }
-    if !how.reading.is_quiet {
+    if !options.reading.is_quiet {
         if let Ok(Some(message)) = input_error_messages_text(
             rt.alloc(),
             files,
@@ -209,36 +209,46 @@ fn text_with_json_blanked_or_refused_head(
 }
 
 /// Leaves a file with items as JSON as it is, if the rest of it can be read, and else refuses it. Prints the text of
-/// standard input as it is, unless `how` only checks.
+/// standard input as it is, unless `options` only checks.
 fn keep_or_refuse_file_with_json_items<R: Runtime + AllocGlobal>(
     rt: &R,
     file: &SourceFile<'_>,
-    how: FormatOptions,
+    options: FormatOptions,
 ) -> Status {
     let alloc = rt.alloc();
     let name = file.name;
     let Ok(text) = text_with_json_blanked_or_refused_head(alloc, file.bytes.as_slice()) else {
-        return refused::report_out_of_memory(rt);
+        return refused::print_memory_refusal(rt);
     };
     if let Err(fault) = read(alloc, text.as_slice()) {
         let mut files = Vec::new(alloc);
         let Ok(bytes) = Vec::from_slice(alloc, text.as_slice()) else {
-            return refused::report_out_of_memory(rt);
+            return refused::print_memory_refusal(rt);
         };
         if files.push(SourceFile { name, bytes }).is_err() {
-            return refused::report_out_of_memory(rt);
+            return refused::print_memory_refusal(rt);
         }
-        return print_refusal_of_unreadable_file(rt, files.as_slice(), text.as_slice(), fault, how);
+        return print_refusal_of_malformed_file(
+            rt,
+            files.as_slice(),
+            text.as_slice(),
+            fault,
+            options,
+        );
     }
-    if !how.reading.is_quiet {
+    if !options.reading.is_quiet {
         let _ = eprintln!(rt; "pst: there are items as JSON in {name}, so it stays as it is");
     }
-    check_print_or_rewrite_file(rt, file, file.bytes.as_slice(), how)
+    check_print_or_rewrite_file(rt, file, file.bytes.as_slice(), options)
 }
 
 /// Lays out the file `name`.
-fn format_file_by_name<R: Runtime + AllocGlobal>(rt: &R, name: &str, how: FormatOptions) -> Status {
-    let files = match input::read_files(rt, &[name], how.reading) {
+fn format_file_by_name<R: Runtime + AllocGlobal>(
+    rt: &R,
+    name: &str,
+    options: FormatOptions,
+) -> Status {
+    let files = match input::read_files(rt, &[name], options.reading) {
         Ok(files) => files,
         Err(why) => return refuse_text(why, &mut Out::new(io::writer(rt))),
     };
@@ -247,11 +257,11 @@ fn format_file_by_name<R: Runtime + AllocGlobal>(rt: &R, name: &str, how: Format
     };
     let bytes = file.bytes.as_slice();
     if json_items::has_json_items(bytes) {
-        return keep_or_refuse_file_with_json_items(rt, file, how);
+        return keep_or_refuse_file_with_json_items(rt, file, options);
     }
     match format_file(rt.alloc(), bytes) {
-        Ok(text) => check_print_or_rewrite_file(rt, file, text.as_slice(), how),
-        Err(fault) => print_refusal_of_unreadable_file(rt, files.as_slice(), bytes, fault, how),
+        Ok(text) => check_print_or_rewrite_file(rt, file, text.as_slice(), options),
+        Err(fault) => print_refusal_of_malformed_file(rt, files.as_slice(), bytes, fault, options),
     }
 }
 
@@ -262,17 +272,17 @@ pub fn run_fmt_subcommand<R: Runtime + AllocGlobal>(
     words: &ArgMatches<'_>,
     reading: InputOptions,
 ) -> Status {
-    let how = FormatOptions {
+    let options = FormatOptions {
         only_checks: words.get_flag("check"),
         reading,
     };
     let names = words.get_strs("FILE").unwrap_or(&[]);
     if names.is_empty() {
-        return format_file_by_name(rt, STANDARD_INPUT, how);
+        return format_file_by_name(rt, STANDARD_INPUT, options);
     }
     let mut status = Status::Accepted;
     for name in names {
-        status = status.or_worse(format_file_by_name(rt, name, how));
+        status = status.or_worse(format_file_by_name(rt, name, options));
     }
     status
 }

@@ -9,7 +9,7 @@ use std::thread::Threads;
 
 /// Returns the form of cases that the arguments choose.
 fn case_form_from_arguments(words: &ArgMatches<'_>) -> ItemForm {
-    if words::arguments_select_json(words) {
+    if words::is_json_selected(words) {
         ItemForm::Json
     } else {
         ItemForm::Trees

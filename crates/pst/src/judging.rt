@@ -2,8 +2,8 @@
 ghost use Rattle.std.specs.Prelude.{◌≡◌, false, All, IfSome};
 ghost use Rattle.pst_runs.specs.Lawful.{AreLawful};
 
-use crate::telling::StepsDisplay;
-use crate::words::arguments_select_json;
+use crate::item_progress::ItemProgressDisplay;
+use crate::words::is_json_selected;
 use clap::ArgMatches;
 use pst_cli::{
     FileWithItemResults, ItemResultCounts, JudgedFile, MEMORY_OBJECT, ProgressCounter, Shown,
@@ -12,7 +12,7 @@ use pst_cli::{
     judge_json_with_progress, judge_text, judge_text_keep_going,
 };
 use pst_messages::{
-    ItemInput, explain_first_broken_result, explain_first_broken_run,
+    ItemInput, message_on_first_broken_item_result, message_on_first_broken_run,
     precondition_warnings_on_item_results, precondition_warnings_on_runs,
 };
 use pst_sexpr::{Out, Sink, put_all};
@@ -52,7 +52,7 @@ fn print_messages_on_judged_runs<R: Eprint>(
         let typed = compiled.typed();
         print_messages_to_stderr(
             rt,
-            explain_first_broken_run(alloc, typed, input, judged.as_slice()),
+            message_on_first_broken_run(alloc, typed, input, judged.as_slice()),
         );
         let warnings = precondition_warnings_on_runs(
             &compiled,
@@ -79,7 +79,7 @@ fn print_messages_on_item_results<R: Eprint>(
         let trees = file.trees.as_slice();
         print_messages_to_stderr(
             rt,
-            explain_first_broken_result(alloc, typed, input, trees, answers.as_slice()),
+            message_on_first_broken_item_result(alloc, typed, input, trees, answers.as_slice()),
         );
         let warnings = precondition_warnings_on_item_results(
             &file.compiled,
@@ -127,7 +127,7 @@ fn judge_items_without_messages<W: Sink, R: Threads + Sync>(
     requires { W.broken out.old ≡ false }
 {
     let shown = shown_items_from_arguments(words);
-    if arguments_select_json(words) {
+    if is_json_selected(words) {
         return judge_json(rt, alloc, input, shown, out).0;
     }
     match (words.get_flag("keep-going"), shown) {
@@ -150,7 +150,7 @@ fn judge_all_items_despite_refusals<W: Sink, R: Threads + Sync>(
     requires { W.broken out.old ≡ false }
 {
     let shown = shown_items_from_arguments(words);
-    if arguments_select_json(words) {
+    if is_json_selected(words) {
         judge_json_with_progress(rt, alloc, input, shown, steps, out)
     } else {
         judge_file_keep_going_with_progress(rt, alloc, input, shown, steps, out)
@@ -168,7 +168,7 @@ fn write_item_lines_or_memory_refusal<W: Sink>(
 {
     let lines = lines.into_inner();
     let is_lost = lines.is_empty() && status != Status::Accepted;
-    let text = match (is_lost, arguments_select_json(words)) {
+    let text = match (is_lost, is_json_selected(words)) {
         (false, _) => lines.as_slice(),
         (true, false) => b"refused memory\n",
         (true, true) => MEMORY_OBJECT,
@@ -179,15 +179,15 @@ fn write_item_lines_or_memory_refusal<W: Sink>(
     }
 }
 
-/// Begins to tell how many items of the input are judged.
+/// Starts the line that displays how many items are judged.
 fn begin_judging_display<R: Threads + Wait + Eprint + Copy + Drop + Send + 'static>(
     rt: &R,
     alloc: Global,
-    is_told: bool,
+    has_progress_line: bool,
     input: &[u8],
-) -> Result<StepsDisplay, AllocError> {
-    let telling = StepsDisplay::begin(rt, alloc, is_told, "judged")?;
-    if is_told {
+) -> Result<ItemProgressDisplay, AllocError> {
+    let telling = ItemProgressDisplay::begin(rt, alloc, has_progress_line, "judged")?;
+    if has_progress_line {
         telling
             .steps()
             .set_total(count_items_of_input(alloc, input)?);
@@ -197,7 +197,7 @@ fn begin_judging_display<R: Threads + Wait + Eprint + Copy + Drop + Send + 'stat
 
 /// Judges the items of the input, up to the first refused one, or all of them with `--keep-going` or JSON output.
 /// Unless the arguments forbid messages, it then counts the items, and may write messages to standard error; if
-/// `is_told`, a line of it says meanwhile how many are judged.
+/// `has_progress_line`, it displays the progress.
 pub fn run_judge_subcommand<
     W: Sink,
     R: Threads + Wait + Sync + Eprint + Copy + Drop + Send + 'static,
@@ -205,7 +205,7 @@ pub fn run_judge_subcommand<
     rt: &R,
     alloc: Global,
     words: &ArgMatches<'_>,
-    is_told: bool,
+    has_progress_line: bool,
     input: ItemInput<'_>,
     counts: &mut ItemResultCounts,
     out: &mut W,
@@ -217,10 +217,10 @@ pub fn run_judge_subcommand<
         return judge_items_without_messages(rt, alloc, words, bytes, out);
     }
     let mut lines = Out::new(Vec::new(alloc));
-    let Ok(telling) = begin_judging_display(rt, alloc, is_told, bytes) else {
+    let Ok(telling) = begin_judging_display(rt, alloc, has_progress_line, bytes) else {
         return write_item_lines_or_memory_refusal(words, lines, Status::Lost, out);
     };
-    if arguments_select_json(words) || words.get_flag("keep-going") {
+    if is_json_selected(words) || words.get_flag("keep-going") {
         let (status, answered) = judge_all_items_despite_refusals(
             rt,
             alloc,

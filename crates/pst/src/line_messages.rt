@@ -3,11 +3,9 @@
 use crate::input::STANDARD_INPUT;
 use pst_cli::RefusedLines;
 use pst_json_runs::is_json_item_line;
-use pst_messages::{MessageScope, input_error_notices};
+use pst_messages::{MessageScope, has_model_at_start, input_error_notices};
 use pst_sexpr::{MAX_BYTES, read};
-use pst_sources::{
-    Input, Notices, Place, SourceFile, Span, first_item, first_line, joined, place_on, tree_at,
-};
+use pst_sources::{Input, Notices, Place, SourceFile, Span, first_line, joined, place_on, tree_at};
 use std::alloc::{AllocError, Global};
 
 /// What a line of a stream has to be.
@@ -93,21 +91,13 @@ fn source_file_of_line(alloc: Global, line: &[u8]) -> Result<SourceFile<'static>
 }
 
 /// Returns whether the tree at `span` begins with `byte`.
-fn is_first_byte(line: &[u8], span: Span, byte: u8) -> bool {
+fn has_first_byte(line: &[u8], span: Span, byte: u8) -> bool {
     line.get(span.start) == Some(&byte)
-}
-
-/// Returns whether a line begins with a model.
-fn begins_with_model(line: &[u8]) -> bool {
-    match first_item(line) {
-        Some(head) => head == "model" || head == "model2",
-        None => false,
-    }
 }
 
 /// Returns what is wrong, and where, on a line that has two trees or more.
 fn place_and_fault_of_two_trees(line: &[u8], first: Span) -> (Span, &'static str) {
-    if is_first_byte(line, first, b'(') {
+    if has_first_byte(line, first, b'(') {
         (
             tree_at(line, first.end),
             "a second item begins here: a line of a stream has one",
@@ -123,14 +113,14 @@ fn place_and_fault_unless_one_item(line: &[u8], count: usize) -> Option<(Span, &
     if count == 0 {
         return Some((first, "there is no item on this line"));
     }
-    if is_first_byte(line, first, b'{') {
+    if has_first_byte(line, first, b'{') {
         let what = "the `{` of an item as JSON has to be the first character of its line";
         return Some((first, what));
     }
     if count > 1 {
         return Some(place_and_fault_of_two_trees(line, first));
     }
-    if begins_with_model(line) {
+    if has_model_at_start(line) {
         return Some((
             first,
             "this is a model: a line of a stream is a case or a run",

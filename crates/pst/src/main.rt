@@ -2,45 +2,45 @@
 #![tactic(auto)]
 
 mod arguments;
-mod beginning;
+mod campaign_messages;
+mod campaign_progress;
 mod campaigning;
+mod client_watch;
 mod clients;
+mod context;
 mod converting;
 mod driving;
-mod explained;
 mod explaining;
 mod formatting;
 mod generating;
-mod hangs;
 mod help;
 mod input;
-mod interrupting;
+mod item_progress;
 mod json_items;
+mod json_notices;
 mod judging;
-mod least;
+mod least_failure;
 mod line_messages;
-mod noticed;
+mod misfits;
 mod outputs;
-mod overheard;
 mod page;
 mod preparing;
-mod progress;
 mod quoting;
 mod reading;
 mod refused;
 mod result_file;
+mod run_explanation;
 mod running;
 mod saving;
+mod stop_file;
 mod streaming;
 mod summary;
 mod systems;
-mod telling;
 mod terminal;
-mod warned;
+mod warnings;
 mod watching;
 mod words;
 
-use interrupting::StopFileWatch;
 use pst_cli::KnownSystem;
 use pst_samples::{Counter, Meet, Queue, Racy, Registry, Stuck};
 use pst_system::BoxedSystem;
@@ -48,11 +48,15 @@ use running::SystemsResult;
 use std::io::IsTerminal;
 use std::process::ExitCode;
 use std::thread::Builder;
+use stop_file::StopFileWatch;
 use systems::{ChosenSystems, SystemsError};
 use terminal::Terminals;
 
 /// Adds a system to the systems.
-fn add_system(systems: SystemsResult, system: Result<BoxedSystem, SystemsError>) -> SystemsResult {
+fn systems_with_added_system(
+    systems: SystemsResult,
+    system: Result<BoxedSystem, SystemsError>,
+) -> SystemsResult {
     let mut systems = systems?;
     let system = system?;
     match systems.push(system) {
@@ -62,9 +66,9 @@ fn add_system(systems: SystemsResult, system: Result<BoxedSystem, SystemsError>)
 }
 
 /// A system in a box, which records its misfits if there is a list for them.
-macro_rules! overheard {
+macro_rules! record_misfits {
     ($alloc:expr, $misfits:expr, $system:expr) => {
-        match overheard::boxed_misfit_recorder($alloc, $system, $misfits) {
+        match misfits::boxed_misfit_recorder($alloc, $system, $misfits) {
             Ok(system) => Ok(system),
             Err(_) => Err(SystemsError::NoMemory),
         }
@@ -75,12 +79,12 @@ macro_rules! overheard {
 macro_rules! known_system {
     ($rt:expr, $alloc:expr, $misfits:expr, $known:expr) => {
         match $known {
-            KnownSystem::Counter => overheard!($alloc, $misfits, Counter::new($rt)),
-            KnownSystem::Racy => overheard!($alloc, $misfits, Racy::new()),
-            KnownSystem::Stuck => overheard!($alloc, $misfits, Stuck),
-            KnownSystem::Registry => overheard!($alloc, $misfits, Registry::new($rt, $alloc)),
-            KnownSystem::Queue => overheard!($alloc, $misfits, Queue::new($rt, $alloc)),
-            KnownSystem::Meet => overheard!($alloc, $misfits, Meet::new()),
+            KnownSystem::Counter => record_misfits!($alloc, $misfits, Counter::new($rt)),
+            KnownSystem::Racy => record_misfits!($alloc, $misfits, Racy::new()),
+            KnownSystem::Stuck => record_misfits!($alloc, $misfits, Stuck),
+            KnownSystem::Registry => record_misfits!($alloc, $misfits, Registry::new($rt, $alloc)),
+            KnownSystem::Queue => record_misfits!($alloc, $misfits, Queue::new($rt, $alloc)),
+            KnownSystem::Meet => record_misfits!($alloc, $misfits, Meet::new()),
         }
     };
 }
@@ -135,22 +139,20 @@ fn main(rt: HostRuntime) -> ExitCode {
                                 Err(why) => Err(why),
                             },
                     };
-                    systems = add_system(systems, system);
+                    systems = systems_with_added_system(systems, system);
                 }
             }
-            let Ok(has_appeared) = interrupting::flag_whether_stop_file_is_there(
-                &rt, alloc, &matches,
-            ) else {
-                return refused::report_out_of_memory(&rt).code();
+            let Ok(has_appeared) = stop_file::shared_stop_file_flag(&rt, alloc, &matches) else {
+                return refused::print_memory_refusal(&rt).code();
             };
-            let shared = interrupting::stop_file_state_for_campaign_and_thread(
+            let shared = stop_file::stop_file_state_for_campaign_and_thread(
                 alloc,
                 &matches,
                 &has_appeared,
             );
             let stop_file = match shared {
                 Some((watched, own)) => match Builder::new()
-                    .spawn(&rt, move || interrupting::watch_for_stop_file(&rt, &own))
+                    .spawn(&rt, move || stop_file::watch_for_stop_file(&rt, &own))
                     .ok()
                 {
                     Some(thread) => Some(StopFileWatch::new(watched, thread)),
@@ -173,6 +175,6 @@ fn main(rt: HostRuntime) -> ExitCode {
         });
     match worker {
         Ok(worker) => ExitCode::from(worker.join(&rt)),
-        Err(_) => ExitCode::from(refused::report_out_of_memory(&rt).code()),
+        Err(_) => ExitCode::from(refused::print_memory_refusal(&rt).code()),
     }
 }

@@ -25,7 +25,7 @@ impl<W: Write> WriteErrorKeeper<W> {
     }
 
     /// Returns the last error of the writer, if it had one.
-    pub fn failure(&self) -> Option<io::Error> {
+    pub fn last_error(&self) -> Option<io::Error> {
         self.failure
     }
 }
@@ -95,7 +95,7 @@ pub fn print_unwritten_file_to_stderr<R: Eprint>(
 
 /// Returns the status of a command whose output, to the file `name` or to standard output, cannot be written.
 /// Standard error says why, but not for a closed pipe, as in `pst judge c.runs | head -n 1`.
-pub fn report_lost_output_unless_pipe_closed<R: Eprint>(
+pub fn print_lost_output_unless_pipe_closed<R: Eprint>(
     rt: &R,
     alloc: Global,
     name: Option<&str>,

@@ -18,7 +18,7 @@ pub fn html_option<'a>(alloc: Global) -> Arg<'a> {
 }
 
 /// Returns the name of the file of the page, if the arguments give one.
-pub fn read_html_option<'a>(matches: &ArgMatches<'a>) -> Option<&'a str> {
+pub fn html_file_name_from_arguments<'a>(matches: &ArgMatches<'a>) -> Option<&'a str> {
     let (_, words) = matches.subcommand()?;
     words.get_str("html")
 }
@@ -54,7 +54,7 @@ pub fn refuse_unwritable_html_page<R: Files + Eprint + AllocGlobal>(
     rt: &R,
     matches: &ArgMatches<'_>,
 ) -> Result<(), Status> {
-    let Some(name) = read_html_option(matches) else {
+    let Some(name) = html_file_name_from_arguments(matches) else {
         return Ok(());
     };
     if name == STANDARD_INPUT {
@@ -83,7 +83,7 @@ impl<'a> CampaignPageOptions<'a> {
     }
 
     /// Whether a page is written.
-    pub fn is_written(self) -> bool {
+    pub fn is_page_wanted(self) -> bool {
         self.name.is_some()
     }
 

@@ -1,7 +1,7 @@
 //! What a command has before its systems are made: its input, and places for what clients and systems do wrong.
 
-use crate::clients::{SharedClientNotes, empty_client_notes};
-use crate::overheard::{SharedMisfits, empty_misfits_if_run_is_not_quiet};
+use crate::clients::{SharedClientNotes, new_client_notes};
+use crate::misfits::{SharedMisfits, new_misfits_if_run_is_not_quiet};
 use crate::reading::{InputFiles, check_and_read_input_or_run_fmt};
 use crate::refused;
 use crate::terminal::Terminals;
@@ -45,8 +45,8 @@ fn prepared_input_from_files<'a>(
     files: InputFiles<'a>,
 ) -> Result<PreparedInput<'a>, AllocError> {
     let text = joined(alloc, files.as_trees())?;
-    let notes = empty_client_notes(alloc)?;
-    let misfits = empty_misfits_if_run_is_not_quiet(alloc, matches);
+    let notes = new_client_notes(alloc)?;
+    let misfits = new_misfits_if_run_is_not_quiet(alloc, matches);
     Ok(PreparedInput {
         files,
         text,
@@ -65,6 +65,6 @@ pub fn prepare_input_or_run_fmt<'a, R: Runtime + AllocGlobal>(
     let files = check_and_read_input_or_run_fmt(rt, matches, terminals)?;
     match prepared_input_from_files(rt.alloc(), matches, files) {
         Ok(prepared) => Ok(prepared),
-        Err(AllocError) => Err(refused::report_out_of_memory(rt)),
+        Err(AllocError) => Err(refused::print_memory_refusal(rt)),
     }
 }

@@ -3,7 +3,7 @@
 use std::alloc::AllocError;
 
 /// Whether a shell takes the character for itself wherever it is.
-fn needs_no_shell_quotes(character: char) -> bool {
+fn is_safe_unquoted_in_shell(character: char) -> bool {
     matches!(character, 'a'..='z' | 'A'..='Z' | '0'..='9' | '/' | '.' | '_' | '-' | ':' | ',' | '=' | '+' | '@' | '%')
 }
 
@@ -12,7 +12,7 @@ pub fn push_shell_word(command: &mut String, argument: &str) -> Result<(), Alloc
     if !argument.is_empty()
         && argument
             .chars()
-            .all(|character| needs_no_shell_quotes(character))
+            .all(|character| is_safe_unquoted_in_shell(character))
     {
         return command.push_str(argument);
     }

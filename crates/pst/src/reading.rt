@@ -21,7 +21,7 @@ pub fn is_quiet(matches: &ArgMatches<'_>) -> bool {
 }
 
 /// Returns the name of the output file in the arguments. `None` is standard output, which `-` also names.
-pub fn output_file_from_arguments<'a>(matches: &ArgMatches<'a>) -> Option<&'a str> {
+pub fn output_file_name_from_arguments<'a>(matches: &ArgMatches<'a>) -> Option<&'a str> {
     let (_, words) = matches.subcommand()?;
     match words.get_str("output") {
         Some(STANDARD_INPUT) => None,
@@ -30,7 +30,7 @@ pub fn output_file_from_arguments<'a>(matches: &ArgMatches<'a>) -> Option<&'a st
 }
 
 /// Returns the file names in the arguments.
-fn input_files_from_arguments<'a>(matches: &'a ArgMatches<'_>) -> &'a [&'a str] {
+fn input_file_names_from_arguments<'a>(matches: &'a ArgMatches<'_>) -> &'a [&'a str] {
     match matches.subcommand() {
         Some((_, words)) => words.get_strs("FILE").unwrap_or(&[]),
         None => &[],
@@ -46,29 +46,27 @@ fn refuse_invalid_arguments<R: Runtime + AllocGlobal>(
 ) -> Result<(), Status> {
     let mut out = Out::new(io::writer(rt));
     let is_quiet = is_quiet(matches);
-    let inputs = input_files_from_arguments(matches);
+    let inputs = input_file_names_from_arguments(matches);
     if let Some((command, name)) = systems::unknown_system_in_arguments(matches) {
         return Err(systems::refuse_unopened_file_or_unknown_system(
             rt, command, name, inputs, is_quiet, &mut out,
         ));
     }
-    if streaming::arguments_select_stream_of_items(matches)
-        && !streaming::is_model_file_alone(inputs)
-    {
+    if streaming::is_item_stream_selected(matches) && !streaming::is_model_file_alone(inputs) {
         return Err(streaming::refuse_stream(rt, inputs, is_quiet, &mut out));
     }
     outputs::refuse_to_overwrite_input(
         rt,
         inputs,
         "-o",
-        output_file_from_arguments(matches),
+        output_file_name_from_arguments(matches),
         is_quiet,
     )?;
     outputs::refuse_to_overwrite_input(
         rt,
         inputs,
         "--html",
-        page::read_html_option(matches),
+        page::html_file_name_from_arguments(matches),
         is_quiet,
     )?;
     saving::refuse_file_as_save_folder(rt, matches)?;
@@ -115,12 +113,12 @@ pub fn check_and_read_input_or_run_fmt<'a, R: Runtime + AllocGlobal>(
     if let Some(("fmt", words)) = matches.subcommand() {
         return Err(formatting::run_fmt_subcommand(rt, words, reading));
     }
-    let read = match input::read_files(rt, input_files_from_arguments(matches), reading) {
+    let read = match input::read_files(rt, input_file_names_from_arguments(matches), reading) {
         Ok(read) => read,
         Err(why) => return Err(refuse_text(why, &mut Out::new(io::writer(rt)))),
     };
     match json_items::source_files_with_json_as_trees_or_cut(rt.alloc(), read.as_slice()) {
         Ok(trees) => Ok(InputFiles { read, trees }),
-        Err(_) => Err(refused::report_out_of_memory(rt)),
+        Err(_) => Err(refused::print_memory_refusal(rt)),
     }
 }

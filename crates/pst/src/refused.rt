@@ -1,6 +1,6 @@
 //! The messages on refusals, on standard error.
 
-use crate::words::arguments_select_json;
+use crate::words::is_json_selected;
 use clap::ArgMatches;
 use pst_cli::{Absence, Status, refuse_text};
 use pst_messages::{MessageScope, input_error_messages_text};
@@ -10,15 +10,15 @@ use std::io;
 use std::rt::Runtime;
 
 /// Writes `refused memory` to standard output, and returns the status that the program ends with.
-pub fn report_out_of_memory<R: Runtime>(rt: &R) -> Status {
+pub fn print_memory_refusal<R: Runtime>(rt: &R) -> Status {
     refuse_text(Absence::NoMemory, &mut Out::new(io::writer(rt)))
 }
 
 /// Returns what to write messages for, by the command `word` and its arguments.
-fn messages_wanted_by_subcommand(word: &str, words: &ArgMatches<'_>) -> MessageScope {
+fn message_scope_of_subcommand(word: &str, words: &ArgMatches<'_>) -> MessageScope {
     match word {
         "judge" if words.get_flag("stream") => MessageScope::Model,
-        "judge" if words.get_flag("keep-going") || arguments_select_json(words) => {
+        "judge" if words.get_flag("keep-going") || is_json_selected(words) => {
             if words.get_flag("all-messages") {
                 MessageScope::AllItems
             } else {
@@ -46,11 +46,11 @@ pub fn print_refusal_messages_to_stderr<R: Eprint + AllocGlobal>(
     words: &ArgMatches<'_>,
     files: &[SourceFile<'_>],
 ) {
-    let asked = messages_wanted_by_subcommand(word, words);
+    let scope = message_scope_of_subcommand(word, words);
     let Ok(text) = joined(rt.alloc(), files) else {
         return;
     };
-    match input_error_messages_text(rt.alloc(), files, text.as_slice(), asked) {
+    match input_error_messages_text(rt.alloc(), files, text.as_slice(), scope) {
         Ok(Some(message)) => {
             let _ = eprint!(rt; "{message}");
         }

@@ -1,6 +1,6 @@
 //! The file that `-o` names. If the input is refused, the refusal goes to standard output, and the file stays as it is.
 
-use crate::words::arguments_select_json;
+use crate::words::is_json_selected;
 use clap::ArgMatches;
 use pst_cli::Status;
 use std::fs::{OpenFile, OpenOptions};
@@ -48,17 +48,17 @@ pub fn open_to_write_without_emptying<R: Files>(rt: &R, name: &str) -> io::Resul
 }
 
 /// Returns whether the arguments choose an output with a line or an object for each item, also if items are refused.
-pub fn are_refused_items_in_output(matches: &ArgMatches<'_>) -> bool {
+pub fn has_refused_items_in_output(matches: &ArgMatches<'_>) -> bool {
     match matches.subcommand() {
         Some(("judge", words)) => {
-            words.get_flag("keep-going") || words.get_flag("stream") || arguments_select_json(words)
+            words.get_flag("keep-going") || words.get_flag("stream") || is_json_selected(words)
         }
         _ => false,
     }
 }
 
 /// Returns whether an output begins with the line or the object of a refused item.
-fn begins_with_refused_item(bytes: &[u8]) -> bool {
+fn is_start_of_refused_item(bytes: &[u8]) -> bool {
     if !bytes.starts_with(ITEM_OBJECT) {
         return bytes.starts_with(REFUSED_ITEM);
     }
@@ -72,8 +72,8 @@ fn begins_with_refused_item(bytes: &[u8]) -> bool {
 }
 
 /// Returns whether an output that begins with `bytes` is the refusal of the input.
-fn begins_with_refusal_of_input(bytes: &[u8], has_refused_items: bool) -> bool {
-    if begins_with_refused_item(bytes) {
+fn is_start_of_input_refusal(bytes: &[u8], has_refused_items: bool) -> bool {
+    if is_start_of_refused_item(bytes) {
         return !has_refused_items;
     }
     bytes.starts_with(REFUSAL) || bytes.starts_with(REFUSAL_OBJECT)
@@ -91,12 +91,12 @@ impl<'a, R: Print, F: Write + OpenFile> ResultFile<'a, R, F> {
     }
 
     /// Returns whether the output went to the file.
-    pub fn is_in_file(&self) -> bool {
+    pub fn has_written_to_file(&self) -> bool {
         self.route == OutputDestination::ToFile
     }
 
     /// Returns whether the output, a refusal, went to standard output.
-    pub fn is_on_standard_output(&self) -> bool {
+    pub fn has_written_to_standard_output(&self) -> bool {
         self.route == OutputDestination::ToStandardOutput
     }
 
@@ -109,8 +109,8 @@ impl<'a, R: Print, F: Write + OpenFile> ResultFile<'a, R, F> {
     }
 
     /// Chooses where an output goes that begins with `bytes`.
-    fn choose_route_and_empty_chosen_file(&mut self, bytes: &[u8]) -> io::Result<()> {
-        if begins_with_refusal_of_input(bytes, self.has_refused_items) {
+    fn choose_destination_and_empty_file(&mut self, bytes: &[u8]) -> io::Result<()> {
+        if is_start_of_input_refusal(bytes, self.has_refused_items) {
             self.route = OutputDestination::ToStandardOutput;
         } else {
             self.empty_file()?;
@@ -123,7 +123,7 @@ impl<'a, R: Print, F: Write + OpenFile> ResultFile<'a, R, F> {
     pub fn empty_file_if_nothing_was_written(&mut self, status: Status) -> io::Result<()> {
         match (self.route, status) {
             (OutputDestination::Undecided, Status::Accepted | Status::Failed) =>
-                self.choose_route_and_empty_chosen_file(&[]),
+                self.choose_destination_and_empty_file(&[]),
             _ => Ok(()),
         }
     }
@@ -132,7 +132,7 @@ impl<'a, R: Print, F: Write + OpenFile> ResultFile<'a, R, F> {
 impl<R: Print, F: Write + OpenFile> Write for ResultFile<'_, R, F> {
     fn write(&mut self, buf: &[u8]) -> io::Result<usize> {
         if self.route == OutputDestination::Undecided {
-            self.choose_route_and_empty_chosen_file(buf)?;
+            self.choose_destination_and_empty_file(buf)?;
         }
         if self.route == OutputDestination::ToStandardOutput {
             io::writer(self.rt).write(buf)

@@ -3,25 +3,24 @@
 ghost use Rattle.std.specs.Prelude.{◌≡◌, false};
 
 use crate::campaigning::run_campaign_subcommand;
+use crate::context::SubcommandContext;
 use crate::driving::drive_items_on_system_or_refuse;
 use crate::judging::run_judge_subcommand;
 use crate::outputs::WriteErrorKeeper;
 use crate::preparing::PreparedInput;
-use crate::reading::output_file_from_arguments;
-use crate::result_file::{ResultFile, are_refused_items_in_output, open_to_write_without_emptying};
-use crate::systems::SystemsError;
+use crate::reading::output_file_name_from_arguments;
+use crate::result_file::{ResultFile, has_refused_items_in_output, open_to_write_without_emptying};
+use crate::systems::{SystemsError, system_name_from_arguments};
 use crate::terminal::Terminals;
 use crate::{
-    clients, converting, explaining, generating, hangs, interrupting, noticed, outputs, refused,
-    streaming, summary, warned,
+    client_watch, clients, converting, explaining, generating, json_notices, outputs, refused,
+    stop_file, streaming, summary, warnings,
 };
 use clap::ArgMatches;
-use pst_campaign::EarlyStop;
 use pst_cli::{Absence, ItemResultCounts, Status, check_json, check_text, list_text, refuse_text};
-use pst_driver::Misfits;
 use pst_messages::ItemInput;
 use pst_sexpr::{Out, Sink};
-use pst_sources::{Input, SourceFile};
+use pst_sources::Input;
 use pst_system::BoxedSystem;
 use std::fs::{remove_file, symlink_metadata};
 use std::io;
@@ -32,32 +31,16 @@ use std::sync::{Arc, Wait};
 use std::thread::Threads;
 use std::time::Clock;
 
-/// What a subcommand works on.
-#[derive(Clone, Copy, Drop)]
-pub struct SubcommandContext<'a, 'm> {
-    /// The arguments of the program.
-    pub matches: &'a ArgMatches<'m>,
-    /// The files of the input as they were read, with their JSON items.
-    pub files: &'a [SourceFile<'a>],
-    /// The list of answers of a wrong type, if it is kept. The threads that drive cases share it.
-    pub misfits: Option<&'a Misfits>,
-    /// When a campaign ends before all its trials have run. The threads that drive cases share it.
-    pub ending: &'a EarlyStop,
-    /// Which of the standard files are terminals.
-    pub terminals: Terminals,
-}
-
 /// The systems that the arguments name.
 pub type SystemsResult = Result<Vec<BoxedSystem>, SystemsError>;
 
-/// Runs cases or trials on the systems, or refuses if they were not made.
+/// Runs cases or trials on the systems, or refuses if they were not made. `words` are the arguments of the subcommand.
 fn run_subcommand_on_systems<
     W: Sink,
     R: Threads + Wait + Sync + Eprint + Files + Clock + AllocGlobal + Copy + Drop + Send + 'static,
 >(
     rt: &R,
-    work: SubcommandContext<'_, '_>,
-    word: &str,
+    context: SubcommandContext<'_, '_>,
     words: &ArgMatches<'_>,
     input: Input<'_>,
     systems: SystemsResult,
@@ -66,34 +49,22 @@ fn run_subcommand_on_systems<
 ) -> Status
     requires { W.broken out.old ≡ false }
 {
-    let name = words.get_str("SYSTEM").unwrap_or("");
-    let is_terminal = work.terminals.errors;
     let systems = match systems {
         Ok(systems) => systems,
         Err(SystemsError::NoMemory) => return refuse_text(Absence::NoMemory, out),
         Err(SystemsError::NoPipes(error)) => {
-            clients::report_unopened_pipes_unless_quiet(rt, words, name, &error);
+            let name = system_name_from_arguments(words);
+            clients::print_unopened_pipes_unless_quiet(rt, words, name, &error);
             return refuse_text(Absence::NoSystem(name), out);
         }
     };
-    if word != "run" {
-        let ending = work.ending;
-        return run_campaign_subcommand(rt, words, name, systems, ending, is_terminal, input, out);
+    match context.matches.subcommand_name() {
+        Some("run") => {
+            let Input { files: _, bytes } = input;
+            drive_items_on_system_or_refuse(rt, context, words, systems, bytes, counts, out)
+        }
+        _ => run_campaign_subcommand(rt, context, words, systems, input, out),
     }
-    let (alloc, misfits) = (rt.alloc(), work.misfits);
-    let Input { files: _, bytes } = input;
-    drive_items_on_system_or_refuse(
-        rt,
-        alloc,
-        words,
-        name,
-        systems,
-        misfits,
-        is_terminal,
-        bytes,
-        counts,
-        out,
-    )
 }
 
 /// Runs the subcommand, writes its output to `out`, and counts the results of its items.
@@ -102,7 +73,7 @@ fn run_subcommand<
     R: Runtime + Threads + Wait + Sync + AllocGlobal + Copy + Drop + Send + 'static,
 >(
     rt: &R,
-    work: SubcommandContext<'_, '_>,
+    context: SubcommandContext<'_, '_>,
     input: Input<'_>,
     systems: SystemsResult,
     counts: &mut ItemResultCounts,
@@ -110,14 +81,14 @@ fn run_subcommand<
 ) -> Status
     requires { W.broken out.old ≡ false }
 {
-    let Some((word, words)) = work.matches.subcommand() else {
+    let Some((word, words)) = context.matches.subcommand() else {
         return Status::Refused;
     };
-    let (alloc, terminals) = (rt.alloc(), work.terminals);
+    let (alloc, terminals) = (rt.alloc(), context.terminals);
     let Input { files: _, bytes } = input;
     match word {
-        "check" if noticed::output_includes_notices(word, words) => {
-            let notices = noticed::json_lines_of_notices_unless_quiet(alloc, words, &input);
+        "check" if json_notices::has_notices_in_output(word, words) => {
+            let notices = json_notices::json_lines_of_notices_unless_quiet(alloc, words, &input);
             check_json(alloc, bytes, notices.as_slice(), out)
         }
         "check" => check_text(alloc, bytes, out),
@@ -128,12 +99,12 @@ fn run_subcommand<
             streaming::judge_standard_input(rt, words, terminals, bytes, counts, out)
         }
         "judge" => {
-            let read = work.files;
+            let read = context.files;
             let input = ItemInput { trees: input, read };
             run_judge_subcommand(rt, alloc, words, terminals.errors, input, counts, out)
         }
         "explain" => explaining::run_explain_subcommand(rt, words, terminals, input, out),
-        _ => run_subcommand_on_systems(rt, work, word, words, input, systems, counts, out),
+        _ => run_subcommand_on_systems(rt, context, words, input, systems, counts, out),
     }
 }
 
@@ -141,50 +112,55 @@ fn run_subcommand<
 /// to standard error, unless the arguments forbid it.
 fn print_outcome_messages_to_stderr<R: Eprint + AllocGlobal>(
     rt: &R,
-    work: SubcommandContext<'_, '_>,
+    context: SubcommandContext<'_, '_>,
     input: Input<'_>,
     status: Status,
     counts: &ItemResultCounts,
 ) {
-    let Some((word, words)) = work.matches.subcommand() else {
+    let Some((word, words)) = context.matches.subcommand() else {
         return;
     };
-    if words.get_flag("quiet") || noticed::output_includes_notices(word, words) {
+    if words.get_flag("quiet") || json_notices::has_notices_in_output(word, words) {
         return;
     }
     let Input { files, bytes } = input;
     match status {
-        Status::Refused => refused::print_refusal_messages_to_stderr(rt, word, words, work.files),
-        Status::Accepted if word == "check" => warned::print_warnings_to_stderr(
+        Status::Refused => refused::print_refusal_messages_to_stderr(
+            rt,
+            word,
+            words,
+            context.files,
+        ),
+        Status::Accepted if word == "check" => warnings::print_warnings_to_stderr(
             rt,
             rt.alloc(),
             files,
             bytes,
         ),
-        _ => summary::report_if_input_has_no_items(rt, word, words, bytes, status, counts),
+        _ => summary::print_note_if_input_has_no_items(rt, word, words, bytes, status, counts),
     }
     summary::print_summary_if_several_items(rt, counts);
 }
 
 /// Runs the subcommand with its output to `writer`, and returns its status and the error of the writer, if it had one.
 /// Unless the arguments forbid it, standard error has a message on each refusal, and warnings on a model that `check`
-/// accepts and after the lines of `judge`. Its last line sums up the items of `judge` and `run_subcommand_to_chosen_output`.
+/// accepts and after the lines of `judge`. Its last line sums up the items of `judge` and `run`.
 fn run_subcommand_with_output_to_writer<
     W: Write + Drop,
     R: Runtime + AllocGlobal + Threads + Wait + Sync + Copy + Drop + Send + 'static,
 >(
     rt: &R,
-    work: SubcommandContext<'_, '_>,
+    context: SubcommandContext<'_, '_>,
     input: Input<'_>,
     systems: SystemsResult,
     writer: W,
 ) -> (Status, Option<io::Error>) {
     let mut out = Out::new(WriteErrorKeeper::new(writer));
     let mut counts = ItemResultCounts::new();
-    let status = run_subcommand(rt, work, input, systems, &mut counts, &mut out);
-    print_outcome_messages_to_stderr(rt, work, input, status, &counts);
+    let status = run_subcommand(rt, context, input, systems, &mut counts, &mut out);
+    print_outcome_messages_to_stderr(rt, context, input, status, &counts);
     if out.has_failed() {
-        (status, out.into_inner().failure())
+        (status, out.into_inner().last_error())
     } else {
         (status, None)
     }
@@ -199,7 +175,7 @@ fn status_after_reporting_output_failure<R: Eprint + AllocGlobal>(
     failure: Option<io::Error>,
 ) -> Status {
     match failure {
-        Some(error) => outputs::report_lost_output_unless_pipe_closed(rt, rt.alloc(), name, &error),
+        Some(error) => outputs::print_lost_output_unless_pipe_closed(rt, rt.alloc(), name, &error),
         None => status,
     }
 }
@@ -210,7 +186,7 @@ fn run_subcommand_to_file_unless_refused<
     R: Runtime + AllocGlobal + Threads + Wait + Sync + Copy + Drop + Send + 'static,
 >(
     rt: &R,
-    work: SubcommandContext<'_, '_>,
+    context: SubcommandContext<'_, '_>,
     input: Input<'_>,
     systems: SystemsResult,
     name: &str,
@@ -218,19 +194,22 @@ fn run_subcommand_to_file_unless_refused<
     let was_there = symlink_metadata(rt, name).is_ok();
     let file = match open_to_write_without_emptying(rt, name) {
         Ok(file) => file,
-        Err(error) => return outputs::report_lost_output_unless_pipe_closed(
+        Err(error) => return outputs::print_lost_output_unless_pipe_closed(
             rt,
             rt.alloc(),
             Some(name),
             &error,
         ),
     };
-    let mut result = ResultFile::new(rt, file, are_refused_items_in_output(work.matches));
-    let terminals = work.terminals.with_output_in_a_file();
-    let work = SubcommandContext { terminals, ..work };
+    let mut result = ResultFile::new(rt, file, has_refused_items_in_output(context.matches));
+    let terminals = context.terminals.with_output_in_a_file();
+    let context = SubcommandContext {
+        terminals,
+        ..context
+    };
     let (status, failure) = run_subcommand_with_output_to_writer(
         rt,
-        work,
+        context,
         input,
         systems,
         &mut result,
@@ -239,10 +218,10 @@ fn run_subcommand_to_file_unless_refused<
         Some(error) => Some(error),
         None => result.empty_file_if_nothing_was_written(status).err(),
     };
-    if !result.is_in_file() && !was_there {
+    if !result.has_written_to_file() && !was_there {
         let _ = remove_file(rt, name);
     }
-    let name = if result.is_on_standard_output() {
+    let name = if result.has_written_to_standard_output() {
         None
     } else {
         Some(name)
@@ -253,13 +232,13 @@ fn run_subcommand_to_file_unless_refused<
 /// Runs the subcommand with its output to the file that the arguments name, or to standard output.
 fn run_subcommand_to_chosen_output<
     R: Runtime + AllocGlobal + Threads + Wait + Sync + Copy + Drop + Send + 'static,
->(rt: &R, work: SubcommandContext<'_, '_>, input: Input<'_>, systems: SystemsResult) -> Status {
-    if let Some(name) = output_file_from_arguments(work.matches) {
-        return run_subcommand_to_file_unless_refused(rt, work, input, systems, name);
+>(rt: &R, context: SubcommandContext<'_, '_>, input: Input<'_>, systems: SystemsResult) -> Status {
+    if let Some(name) = output_file_name_from_arguments(context.matches) {
+        return run_subcommand_to_file_unless_refused(rt, context, input, systems, name);
     }
     let (status, failure) = run_subcommand_with_output_to_writer(
         rt,
-        work,
+        context,
         input,
         systems,
         io::writer(rt),
@@ -280,16 +259,16 @@ pub fn run_subcommand_while_watching<
     has_appeared: Option<Arc<AtomicBool>>,
 ) -> Status {
     let alloc = rt.alloc();
-    let ending = interrupting::early_stop_from_arguments(matches, has_appeared);
-    let work = SubcommandContext {
+    let ending = stop_file::early_stop_from_arguments(matches, has_appeared);
+    let context = SubcommandContext {
         matches,
         files: prepared.files(),
         misfits: prepared.misfits.as_deref(),
         ending: &ending,
         terminals,
     };
-    let watch = hangs::start_client_watch_unless_quiet(rt, alloc, matches, &prepared.notes);
-    let status = run_subcommand_to_chosen_output(&rt, work, prepared.input(), systems);
+    let watch = client_watch::start_client_watch_unless_quiet(rt, alloc, matches, &prepared.notes);
+    let status = run_subcommand_to_chosen_output(&rt, context, prepared.input(), systems);
     if let Some(watch) = watch {
         watch.end(&rt);
     }

@@ -20,7 +20,7 @@ pub struct FailureSaver<'a> {
     command: String,
 }
 
-/// A number of 64 bits that bytes have, by FNV-1a.
+/// The 64-bit FNV-1a hash of `bytes`.
 fn fnv1a_hash(bytes: &[u8]) -> u64 {
     let mut number: u64 = 0xcbf2_9ce4_8422_2325;
     for byte in bytes {

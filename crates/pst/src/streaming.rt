@@ -2,8 +2,8 @@
 ghost use Rattle.std.specs.Prelude.{◌≡◌, false};
 
 use crate::input::STANDARD_INPUT;
+use crate::item_progress::ItemProgressDisplay;
 use crate::line_messages::{MOST_LINES, RefusedLineMessages};
-use crate::telling::StepsDisplay;
 use crate::terminal::Terminals;
 use clap::ArgMatches;
 use pst_cli::{Absence, ItemResultCounts, Status, count_items_of_input, judge_stream, refuse_text};
@@ -14,7 +14,7 @@ use std::sync::Wait;
 use std::thread::Threads;
 
 /// Returns whether the arguments select a stream of items.
-pub fn arguments_select_stream_of_items(matches: &ArgMatches<'_>) -> bool {
+pub fn is_item_stream_selected(matches: &ArgMatches<'_>) -> bool {
     match matches.subcommand() {
         Some((word, words)) => word == "judge" && words.get_flag("stream"),
         None => false,
@@ -54,7 +54,7 @@ pub fn refuse_stream<W: Sink, R: Eprint>(
 }
 
 /// Writes to standard error that the items after the model in its file are not judged, if there are some.
-fn warn_if_file_has_unjudged_items<R: Eprint>(rt: &R, alloc: Global, input: &[u8]) {
+fn print_warning_if_file_has_unjudged_items<R: Eprint>(rt: &R, alloc: Global, input: &[u8]) {
     if matches!(count_items_of_input(alloc, input), Ok(1..)) {
         let _ = eprintln!(rt;
             "pst: the items after the model are not judged: with --stream they come on standard input"
@@ -83,7 +83,7 @@ fn print_count_of_refusals_without_message<R: Eprint>(rt: &R, refused: usize, mo
 }
 
 /// Judges the items of standard input, one on each line, by the model at the beginning of `input`. If standard error is
-/// a terminal, and standard output, on which the verdicts come meanwhile, is none, a line says how many are judged.
+/// a terminal and standard output is not, a line displays how many are judged.
 /// Unless the arguments forbid messages, standard error has a message on each of the first refused lines, says how many
 /// others are refused, and says if there are items after the model, which are not judged.
 pub fn judge_standard_input<
@@ -102,16 +102,16 @@ pub fn judge_standard_input<
     let alloc = rt.alloc();
     let is_quiet = words.get_flag("quiet");
     if !is_quiet {
-        warn_if_file_has_unjudged_items(rt, alloc, input);
+        print_warning_if_file_has_unjudged_items(rt, alloc, input);
     }
-    let is_told = terminals.errors && !terminals.output && !is_quiet;
-    let Ok(telling) = StepsDisplay::begin(rt, alloc, is_told, "judged") else {
+    let has_progress_line = terminals.errors && !terminals.output && !is_quiet;
+    let Ok(telling) = ItemProgressDisplay::begin(rt, alloc, has_progress_line, "judged") else {
         return refuse_text(Absence::NoMemory, out);
     };
     let steps = telling.steps();
     let most = max_messages_from_arguments(words);
     let name = words.get_str("FILE").unwrap_or(STANDARD_INPUT);
-    let mut messages = RefusedLineMessages::new(rt, name, input, most, is_told);
+    let mut messages = RefusedLineMessages::new(rt, name, input, most, has_progress_line);
     let mut reader = rt.reader();
     let status = judge_stream(
         rt,

@@ -91,7 +91,7 @@ pub fn print_summary_if_several_items<R: Eprint + AllocGlobal>(rt: &R, counts: &
 }
 
 /// Returns whether the command takes items from its files.
-fn subcommand_takes_items(word: &str, words: &ArgMatches<'_>) -> bool {
+fn is_subcommand_with_items(word: &str, words: &ArgMatches<'_>) -> bool {
     match word {
         "judge" => !words.get_flag("stream"),
         "explain" | "run" => true,
@@ -101,7 +101,7 @@ fn subcommand_takes_items(word: &str, words: &ArgMatches<'_>) -> bool {
 
 /// Writes to standard error that the command `word` had no items, if its input has none after the model.
 /// `status` is the status of the command.
-pub fn report_if_input_has_no_items<R: Eprint + AllocGlobal>(
+pub fn print_note_if_input_has_no_items<R: Eprint + AllocGlobal>(
     rt: &R,
     word: &str,
     words: &ArgMatches<'_>,
@@ -111,7 +111,7 @@ pub fn report_if_input_has_no_items<R: Eprint + AllocGlobal>(
 ) {
     if status != Status::Accepted
         || total_of_item_counts(counts) > 0
-        || !subcommand_takes_items(word, words)
+        || !is_subcommand_with_items(word, words)
     {
         return;
     }

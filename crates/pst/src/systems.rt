@@ -59,6 +59,11 @@ pub fn systems_from_arguments<'a>(matches: &ArgMatches<'a>) -> Option<(ChosenSys
     }
 }
 
+/// Returns the name of a system in the arguments of a subcommand, or an empty one.
+pub fn system_name_from_arguments<'a>(words: &ArgMatches<'a>) -> &'a str {
+    words.get_str("SYSTEM").unwrap_or("")
+}
+
 /// Returns the command and the name of a system in the arguments, if no system has this name.
 pub fn unknown_system_in_arguments<'a>(matches: &'a ArgMatches<'_>) -> Option<(&'a str, &'a str)> {
     let (command, words) = matches.subcommand()?;
@@ -71,7 +76,7 @@ pub fn unknown_system_in_arguments<'a>(matches: &'a ArgMatches<'_>) -> Option<(&
 }
 
 /// Returns whether a name that no system has looks like a command.
-fn looks_like_command(name: &str) -> bool {
+fn has_shell_command_characters(name: &str) -> bool {
     name.contains(' ') || name.contains('/') || name.contains('.')
 }
 
@@ -100,7 +105,7 @@ fn unknown_system_hint<R: Files + AllocGlobal>(
         )?;
         return Ok(Some(hint));
     }
-    if looks_like_command(name) {
+    if has_shell_command_characters(name) {
         let hint = format!(in alloc;
             "hint: a command that runs a client follows `--client`: `--client '{name}'`"
         )?;
@@ -121,7 +126,7 @@ fn first_system_name_among_files<'a, R: Files>(rt: &R, names: &[&'a str]) -> Opt
 
 /// Writes a hint to standard error if one of the files is no file but the name of a system. `name` is in the place of a
 /// system in the arguments of `command`.
-fn hint_if_system_is_misplaced<R: Files + Eprint>(
+fn print_hint_if_system_is_misplaced<R: Files + Eprint>(
     rt: &R,
     command: &str,
     name: &str,
@@ -149,7 +154,7 @@ pub fn refuse_unopened_file_or_unknown_system<W: Sink, R: Files + Eprint + Alloc
 {
     if let Err(why) = input::open_files_without_reading(rt, files, is_quiet) {
         if !is_quiet {
-            hint_if_system_is_misplaced(rt, command, name, files);
+            print_hint_if_system_is_misplaced(rt, command, name, files);
         }
         return refuse_text(why, out);
     }

@@ -15,7 +15,7 @@ pub struct Terminals {
 }
 
 impl Terminals {
-    /// The same, if the output goes to a file.
+    /// These terminals with the output in a file, which is none.
     pub fn with_output_in_a_file(self) -> Terminals {
         Terminals {
             output: false,
@@ -75,8 +75,8 @@ fn line_width_of_environment<R: Env + AllocGlobal>(rt: &R) -> Option<u64> {
 
 /// The width of lines: as the arguments say, or else `COLUMNS`, or 80.
 pub fn line_width<R: Env + AllocGlobal>(rt: &R, words: &ArgMatches<'_>) -> usize {
-    let asked: Option<u64> = words.get_one("width");
-    match asked.or(line_width_of_environment(rt)) {
+    let chosen: Option<u64> = words.get_one("width");
+    match chosen.or(line_width_of_environment(rt)) {
         Some(width) => width.clamp(LEAST_WIDTH, MOST_WIDTH) as usize,
         None => WIDTH,
     }

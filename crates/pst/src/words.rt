@@ -6,8 +6,8 @@ mod plan;
 use crate::{converting, explaining, formatting, help, page};
 use clap::Command;
 pub use options::{
-    arguments_name_client, arguments_select_json, model_and_items_files_argument,
-    only_failures_option, output_option, quiet_option,
+    has_client_argument, is_json_selected, model_and_items_files_argument, only_failures_option,
+    output_option, quiet_option,
 };
 pub use plan::{campaign_settings_from_arguments, generate_settings_from_arguments};
 use std::alloc::{AllocError, Global};

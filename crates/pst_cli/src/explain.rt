@@ -15,7 +15,7 @@ use crate::output::{Output, write_with_status_or_lost};
 use crate::status::Status;
 use pst_case::Run;
 use pst_compile::Compiled;
-use pst_explain::{TreePlace, draw_search_as_graphviz, explain_item, tree_places_in_input};
+use pst_explain::{TreePlace, explain_item, graphviz_text_of_item_search, tree_places_in_input};
 use pst_judge::Judged;
 use pst_rejudge::ProgressCounter;
 use pst_sexpr::Sink;
@@ -52,7 +52,9 @@ fn append_explanation_or_graph_of_item(
 {
     let typed = compiled.typed();
     if let ExplanationForm::Dot { is_whole } = form {
-        let graph = draw_search_as_graphviz(compiled, alloc, typed, run, judged, number, is_whole)?;
+        let graph = graphviz_text_of_item_search(
+            compiled, alloc, typed, run, judged, number, is_whole,
+        )?;
         text.extend_from_slice(graph.as_slice())?;
         return Ok(text);
     }

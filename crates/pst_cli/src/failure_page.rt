@@ -9,7 +9,7 @@ use pst_compile::Compiled;
 use pst_explain::explain_item;
 use pst_json::{
     AFTER_DATA, AFTER_ITEMS, AFTER_NO_ITEM, BEFORE_DATA, BETWEEN_ITEMS, CampaignFacts,
-    json_campaign_document_start, trial_json,
+    json_campaign_document_start, trial_explanation_json,
 };
 use pst_judge::{Judged, judge_one};
 use pst_ledger::Entry;
@@ -106,7 +106,7 @@ fn judged_run_explanation_json<'a>(
 {
     let typed = compiled.typed();
     let explanation = explain_item(compiled, alloc, typed, run, judged, number, None)?;
-    let json = trial_json(alloc, &explanation, trial);
+    let json = trial_explanation_json(alloc, &explanation, trial);
     drop(explanation);
     json
 }

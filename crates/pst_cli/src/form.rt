@@ -2,7 +2,7 @@
 
 use pst_explain::{Explanation, append_colored_explanation_text, append_explanation_text};
 use pst_json::{
-    AFTER_DATA, AFTER_ITEMS, AFTER_NO_ITEM, BEFORE_DATA, BETWEEN_ITEMS, item_json,
+    AFTER_DATA, AFTER_ITEMS, AFTER_NO_ITEM, BEFORE_DATA, BETWEEN_ITEMS, item_explanation_json,
     json_document_start,
 };
 use pst_model::Source;
@@ -74,7 +74,7 @@ impl ExplanationForm {
                 width,
             ),
             ExplanationForm::Json | ExplanationForm::Html => {
-                text.extend_from_slice(item_json(alloc, explanation)?.as_slice())?;
+                text.extend_from_slice(item_explanation_json(alloc, explanation)?.as_slice())?;
                 Ok(text)
             }
             ExplanationForm::Dot { .. } => Ok(text),

@@ -14,7 +14,7 @@ use crate::output::{Output, write_with_status_or_lost};
 use crate::status::Status;
 use pst_case::Run;
 use pst_compile::Compiled;
-use pst_explain::draw_search_as_graphviz;
+use pst_explain::graphviz_text_of_item_search;
 use pst_judge::Judged;
 use pst_rejudge::ProgressCounter;
 use pst_sexpr::Sink;
@@ -66,7 +66,7 @@ fn graph_of_item_if_it_exists(
     let Some(judged) = all.get(index) else {
         return Ok(None);
     };
-    let graph = draw_search_as_graphviz(
+    let graph = graphviz_text_of_item_search(
         compiled,
         alloc,
         compiled.typed(),

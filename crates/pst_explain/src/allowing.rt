@@ -161,8 +161,8 @@ pub fn allowed_answers_for_explanation<C: Callbacks>(
         shaped: &scene.run.shaped,
         history,
     };
-    callbacks.set_further_calls_of_next(1);
+    callbacks.set_extra_calls_charged_to_next(1);
     let found = find_allowed_values(&run, scene.model, core, call.number, &wanted, MOST)?;
-    callbacks.set_further_calls_of_next(0);
+    callbacks.set_extra_calls_charged_to_next(0);
     Ok(found)
 }

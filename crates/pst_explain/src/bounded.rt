@@ -17,7 +17,7 @@ const VALUES_IN_A_STEP: u64 = 16;
 
 /// Callbacks with a limit on their steps. A call of a callback takes one step, one more for each of its turns, and one
 /// more for every 16 values in the last state. If no steps are left, a call returns `AllocError`, which ends what calls
-/// it, and `has_run_out` is true from then on.
+/// it, and `has_run_out_of_steps` returns true from then on.
 #[derive(Drop)]
 pub struct StepLimitedCallbacks<'a, C> {
     callbacks: &'a C,
@@ -41,14 +41,15 @@ fn count_steps_of_ended_callback(ended: &Result<(Value, u32), Fault>) -> u64 {
     u64::from(turns).saturating_add(1)
 }
 
-/// How many values are in a value, itself among them. Eight bytes of a text count as one, and keys do not count.
+/// The size of a value, for counting steps: 1 for each value in it and for itself, and 1 for each 8 bytes of a text. Keys
+/// are free.
 #[cycle(size)]
-fn count_nested_values(value: &Value) -> u64 {
+fn value_size(value: &Value) -> u64 {
     let inner = match value {
-        Value::Tuple(parts) => count_nested_values_of_all(parts.as_slice()),
-        Value::List(parts) => count_nested_values_of_all(parts.as_slice()),
-        Value::Map(_, values) => count_nested_values_of_all(values.get().as_slice()),
-        Value::Ref(_, value) => count_nested_values(value.get()),
+        Value::Tuple(parts) => total_value_size(parts.as_slice()),
+        Value::List(parts) => total_value_size(parts.as_slice()),
+        Value::Map(_, values) => total_value_size(values.get().as_slice()),
+        Value::Ref(_, value) => value_size(value.get()),
         Value::Text(text) => (text.as_bytes().len() / 8) as u64,
         _ => 0,
     };
@@ -57,10 +58,10 @@ fn count_nested_values(value: &Value) -> u64 {
 
 /// How many values are in `values`, themselves among them.
 #[cycle(size)]
-fn count_nested_values_of_all(values: &[Value]) -> u64 {
+fn total_value_size(values: &[Value]) -> u64 {
     let mut sum: u64 = 0;
     for value in values {
-        sum = sum.saturating_add(count_nested_values(value));
+        sum = sum.saturating_add(value_size(value));
     }
     sum
 }
@@ -115,7 +116,7 @@ impl<'a, C: Callbacks> StepLimitedCallbacks<'a, C> {
     }
 
     /// From now on a call of `next` takes the steps of `calls` further callbacks, which something else evaluates.
-    pub fn set_further_calls_of_next(&self, calls: u64) {
+    pub fn set_extra_calls_charged_to_next(&self, calls: u64) {
         self.further_calls.set(calls);
     }
 
@@ -134,7 +135,7 @@ impl<'a, C: Callbacks> StepLimitedCallbacks<'a, C> {
     fn take_steps_and_measure_state(&self, ended: &Result<(Value, u32), Fault>) {
         if let Ok((state, _)) = ended {
             self.steps_of_state
-                .set(count_nested_values(state) / VALUES_IN_A_STEP);
+                .set(value_size(state) / VALUES_IN_A_STEP);
         }
         self.take_steps_and_note_longest_call(ended);
         let further = self.further_calls.get();

@@ -21,7 +21,7 @@ pub struct CallWithBrokenReply<'a> {
 }
 
 /// Returns the reply of command `number`, which is not a value.
-pub fn broken_reply<'a>(scene: &Scene<'a>, number: u32) -> CallWithBrokenReply<'a> {
+pub fn call_with_broken_reply<'a>(scene: &Scene<'a>, number: u32) -> CallWithBrokenReply<'a> {
     let call = call_numbered(scene.all.as_slice(), number);
     let wanted = match &call {
         Some(call) => match operation_of_call(scene, call) {
@@ -94,5 +94,5 @@ pub fn broken_reply_sentence_of_run(
     number: u32,
 ) -> Result<Option<Vec<u8>>, AllocError> {
     let scene = scene_of_run(alloc, typed, run)?;
-    broken_reply_sentence(alloc, scene.model, &broken_reply(&scene, number))
+    broken_reply_sentence(alloc, scene.model, &call_with_broken_reply(&scene, number))
 }

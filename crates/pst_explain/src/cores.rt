@@ -49,7 +49,7 @@ impl<'a> CoreAnswer<'a> {
     }
 
     /// Whether each answer that the model allows is known.
-    pub fn has_all_allowed_answers(&self) -> bool {
+    pub fn is_allowed_list_complete(&self) -> bool {
         self.allowed.all && self.has_one_reply
     }
 }
@@ -76,7 +76,7 @@ impl<'a> Core<'a> {
 }
 
 /// Returns whether the postcondition of a command requires one single reply.
-fn postcondition_requires_single_reply(
+fn has_postcondition_with_single_reply(
     alloc: Global,
     scene: &Scene<'_>,
     call: &Call<'_>,
@@ -87,7 +87,7 @@ fn postcondition_requires_single_reply(
     }
 }
 
-/// Searches what the model allows in place of an answer of a core, and why it is wrong if the explanation has to say so.
+/// Adds to an answer of a core what the model allows in its place, and why it is wrong if the explanation has to say so.
 /// `AllocError` too if `callbacks` have no steps left.
 fn complete_core_answer<'a, C: Callbacks>(
     callbacks: &StepLimitedCallbacks<'_, C>,
@@ -125,7 +125,7 @@ fn core_answer_without_allowed_values<'a>(
             values: Items::new(alloc),
             all: false,
         },
-        has_one_reply: postcondition_requires_single_reply(alloc, scene, &call)?,
+        has_one_reply: has_postcondition_with_single_reply(alloc, scene, &call)?,
         wrong: None,
     })
 }

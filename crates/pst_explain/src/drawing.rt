@@ -3,7 +3,7 @@
 use crate::labels::{
     add_graphviz_label_cut_if_long, add_graphviz_node_name, add_graphviz_quoted_text,
 };
-use crate::position::Position;
+use crate::position::GraphPosition;
 use crate::search::{GraphMove, MoveTarget, SearchGraph};
 use pst_scene::{Scene, add_str, copy_explanation_text, dead_end_text, value_text};
 use std::alloc::{AllocError, Global};
@@ -17,7 +17,7 @@ fn can_position_still_be_expanded(
     scene: &Scene<'_>,
     search: &SearchGraph<'_>,
     number: usize,
-    position: &Position,
+    position: &GraphPosition,
 ) -> bool {
     position.number_of_calls_before() < scene.all.len() && !search.has_moves_from_position(number)
 }
@@ -53,13 +53,13 @@ fn add_graph_title(
 }
 
 /// Adds a position with its state.
-fn add_position_node(
+fn add_graphviz_position(
     out: &mut Vec<u8>,
     alloc: Global,
     scene: &Scene<'_>,
     search: &SearchGraph<'_>,
     number: usize,
-    position: &Position,
+    position: &GraphPosition,
 ) -> Result<(), AllocError> {
     let state = value_text(alloc, scene.model, &position.state)?;
     add_str(out, "  ")?;
@@ -73,7 +73,7 @@ fn add_position_node(
 }
 
 /// Puts the positions after `level` commands side by side.
-fn align_positions_of_level(
+fn add_graphviz_rank_of_level(
     out: &mut Vec<u8>,
     alloc: Global,
     search: &SearchGraph<'_>,
@@ -185,10 +185,10 @@ fn add_graphviz_positions(
     search: &SearchGraph<'_>,
 ) -> Result<(), AllocError> {
     for (number, position) in search.positions.iter().enumerate() {
-        add_position_node(out, alloc, scene, search, number, position)?;
+        add_graphviz_position(out, alloc, scene, search, number, position)?;
     }
     for level in 0..count_search_levels(search) {
-        align_positions_of_level(out, alloc, search, level)?;
+        add_graphviz_rank_of_level(out, alloc, search, level)?;
     }
     Ok(())
 }
@@ -207,7 +207,7 @@ fn add_graphviz_moves(
 }
 
 /// The search as Graphviz text, under a title.
-pub fn search_as_graphviz_text(
+pub fn search_graph_as_graphviz_text(
     alloc: Global,
     scene: &Scene<'_>,
     search: &SearchGraph<'_>,

@@ -8,14 +8,16 @@ ghost use Rattle.pst_judge.specs.declared.verdicts.Verdict.TheVariants as verdic
 ghost use Rattle.pst_reasons.specs.Reasons.{IsUnexplained};
 
 use crate::bounded::StepLimitedCallbacks;
-use crate::breaking::{CallWithBrokenReply, broken_reply};
+use crate::breaking::{CallWithBrokenReply, call_with_broken_reply};
 use crate::cores::{Core, find_core_for_explanation};
 use crate::failures::{
     Failure, failure_at_fault_place, failure_in_unknown_interleaving,
     failure_of_call_in_interleaving,
 };
 use crate::places::TreePlace;
-use crate::walks::{InterleavingStates, explaining_walk, furthest_walk};
+use crate::walks::{
+    InterleavingStates, states_of_explaining_interleaving, states_of_furthest_interleaving,
+};
 use pst_case::{History, Run};
 use pst_eval::{Callback, Callbacks, FaultPlace};
 use pst_judge::{Judged, Verdict, Why, verdict_with_interleaving};
@@ -69,7 +71,7 @@ impl<'a> JudgementReason<'a> {
         match self {
             JudgementReason::Unexplained { core, .. } | JudgementReason::Faulted { core, .. } =>
                 match core {
-                    Some(core) => core.is_cut || self.walk().is_none(),
+                    Some(core) => core.is_cut || self.interleaving().is_none(),
                     None => true,
                 },
             _ => false,
@@ -87,7 +89,7 @@ impl<'a> JudgementReason<'a> {
     }
 
     /// The interleaving of the verdict, if there is one and it is known.
-    pub fn walk(&self) -> Option<&InterleavingStates<'a>> {
+    pub fn interleaving(&self) -> Option<&InterleavingStates<'a>> {
         match self {
             JudgementReason::Explained(walk) => Some(walk),
             JudgementReason::Unexplained { furthest, .. } => furthest.as_ref(),
@@ -197,7 +199,7 @@ fn explain_unexplained_verdict<'a, C: Callbacks>(
     requires verdict { IsVerdict (C.model callbacks.now.callbacks.now) scene.now.run.now.shaped.case history.now
         (verdict.Unexplained far) }
 {
-    let furthest = callbacks.none_if_out_of_steps(furthest_walk(
+    let furthest = callbacks.none_if_out_of_steps(states_of_furthest_interleaving(
         callbacks, alloc, scene, history, far,
     ))?;
     let core = core_within_step_limit(callbacks, alloc, scene, history)?;
@@ -225,14 +227,22 @@ fn explain_verdict<'a, C: Callbacks>(
     let bounded = StepLimitedCallbacks::new(callbacks, MOST_STEPS);
     match verdict {
         Verdict::Explained(word) => {
-            let walk = explaining_walk(callbacks, alloc, scene, history, word.as_slice())?;
+            let walk = states_of_explaining_interleaving(
+                callbacks,
+                alloc,
+                scene,
+                history,
+                word.as_slice(),
+            )?;
             Ok(JudgementReason::Explained(walk))
         }
         Verdict::Faulted(place) => explain_fault_verdict(&bounded, alloc, scene, history, *place),
         Verdict::Unexplained(far) => explain_unexplained_verdict(
             &bounded, alloc, scene, history, *far,
         ),
-        Verdict::Broken(number) => Ok(JudgementReason::Broken(broken_reply(scene, *number))),
+        Verdict::Broken(number) => Ok(JudgementReason::Broken(call_with_broken_reply(
+            scene, *number,
+        ))),
     }
 }
 

@@ -1,7 +1,9 @@
 //! The text of callbacks that fault, and of preconditions that are false.
 
-use crate::failures::{ExpressionWithFailingPart, ExpressionWithNameValues, FailingPart, Failure};
-use crate::walk_text::add_states_along_walk_text;
+use crate::failures::{
+    ExpressionWithFailingPart, ExpressionWithNameValues, Failure, FaultyPartWithValues,
+};
+use crate::walk_text::add_interleaving_states_text;
 use pst_eval::Callback;
 use pst_model::Source;
 use pst_scene::{
@@ -48,7 +50,7 @@ fn add_failing_part_text(
     page: &mut Page,
     alloc: Global,
     model: &Source,
-    part: &FailingPart<'_>,
+    part: &FaultyPartWithValues<'_>,
 ) -> Result<(), AllocError> {
     match part.function {
         None => page.add_sentence(alloc, 2, b"It faults in this part:")?,
@@ -213,5 +215,5 @@ pub fn add_failure_explanation_text(
         return page.add_sentence(alloc, 2, NO_WALK.as_bytes());
     };
     page.add_sentence(alloc, 2, b"The states before it:")?;
-    add_states_along_walk_text(page, alloc, scene.model, walk)
+    add_interleaving_states_text(page, alloc, scene.model, walk)
 }

@@ -1,7 +1,8 @@
 //! Callbacks that fault, and preconditions that are false.
 
 use crate::walks::{
-    InterleavingStates, blocked_calls_after, walk_along_calls, walk_without_states,
+    InterleavingStates, blocked_calls_after, interleaving_states_along_calls,
+    interleaving_without_states,
 };
 use pst_case::Reply;
 use pst_eval::{Callback, Env, FaultPlace};
@@ -24,7 +25,7 @@ pub struct ExpressionWithNameValues<'a> {
 
 /// The part of an expression that faults.
 #[derive(Drop)]
-pub struct FailingPart<'a> {
+pub struct FaultyPartWithValues<'a> {
     /// The name of the function in whose body it is, if it is in one.
     pub function: Option<&'a str>,
     pub evaluated: ExpressionWithNameValues<'a>,
@@ -34,7 +35,7 @@ pub struct FailingPart<'a> {
 #[derive(Drop)]
 pub struct ExpressionWithFailingPart<'a> {
     pub whole: ExpressionWithNameValues<'a>,
-    pub part: Option<FailingPart<'a>>,
+    pub part: Option<FaultyPartWithValues<'a>>,
 }
 
 /// A callback that faults, or a precondition that is false.
@@ -85,11 +86,11 @@ fn failing_part_unless_whole<'a>(
     alloc: Global,
     whole: &Expr,
     found: &FaultyPart<'a>,
-) -> Result<Option<FailingPart<'a>>, AllocError> {
+) -> Result<Option<FaultyPartWithValues<'a>>, AllocError> {
     if found.function.is_none() && *found.part == *whole {
         return Ok(None);
     }
-    Ok(Some(FailingPart {
+    Ok(Some(FaultyPartWithValues {
         function: found.function,
         evaluated: expression_with_bound_values(alloc, found.part, found.names.as_slice())?,
     }))
@@ -112,7 +113,7 @@ fn expression_with_failing_part<'a>(
 }
 
 /// Returns the expression of the initial state, and the part of it that faults. `None` if the model has none.
-fn init_expression<'a>(
+fn init_expression_with_failing_part<'a>(
     alloc: Global,
     scene: &Scene<'a>,
 ) -> Result<Option<ExpressionWithFailingPart<'a>>, AllocError> {
@@ -124,7 +125,7 @@ fn init_expression<'a>(
 
 /// Returns the expression of the calls to pick from in `state`, and the part of it that faults. `None` if the model has
 /// none.
-fn command_callback_expression<'a>(
+fn command_expression_with_failing_part<'a>(
     alloc: Global,
     scene: &Scene<'a>,
     state: &Value,
@@ -140,7 +141,7 @@ fn command_callback_expression<'a>(
 
 /// Returns the expression of the `next` of a command, and the part of it that faults. `env` has no
 /// result yet.
-fn next_expression<'a>(
+fn next_expression_with_failing_part<'a>(
     alloc: Global,
     scene: &Scene<'a>,
     call: &Call<'_>,
@@ -154,7 +155,7 @@ fn next_expression<'a>(
 
 /// Returns the expression of the `post` of a command, and the part of it that faults. `env` has no
 /// result yet. `None` if the reply is no value.
-fn post_expression<'a>(
+fn post_expression_with_failing_part<'a>(
     alloc: Global,
     scene: &Scene<'a>,
     call: &Call<'_>,
@@ -172,7 +173,7 @@ fn post_expression<'a>(
 
 /// Returns the expression of a callback of a command on `state`, the state before it, and the part of it that faults.
 /// `None` for `init` and `command`, for `post` if the reply is no value, and if the model has no such operation.
-fn callback_expression<'a>(
+fn callback_expression_with_failing_part<'a>(
     alloc: Global,
     scene: &Scene<'a>,
     callback: Callback,
@@ -188,21 +189,33 @@ fn callback_expression<'a>(
     match callback {
         Callback::Init | Callback::Command => Ok(None),
         Callback::Pre => expression_with_failing_part(alloc, scene, &operation.pre, &env),
-        Callback::Next => next_expression(alloc, scene, call, &operation.next, &env),
-        Callback::Post => post_expression(alloc, scene, call, &operation.post, &env),
+        Callback::Next => next_expression_with_failing_part(
+            alloc,
+            scene,
+            call,
+            &operation.next,
+            &env,
+        ),
+        Callback::Post => post_expression_with_failing_part(
+            alloc,
+            scene,
+            call,
+            &operation.post,
+            &env,
+        ),
     }
 }
 
 /// Returns the walk along the commands `before` of the interleaving `word`, as far as `states` has
 /// states, with the commands that cannot come next after them.
-fn walk_with_blocked_calls<'a>(
+fn interleaving_states_with_blocked_calls<'a>(
     alloc: Global,
     scene: &Scene<'a>,
     word: &[usize],
     before: &[Call<'a>],
     states: &[Value],
 ) -> Result<InterleavingStates<'a>, AllocError> {
-    let mut walk = walk_along_calls(alloc, scene, word, before, states)?;
+    let mut walk = interleaving_states_along_calls(alloc, scene, word, before, states)?;
     if let Some(state) = states.get(before.len()) {
         walk.stopped = blocked_calls_after(alloc, scene, before, state)?;
     }
@@ -224,10 +237,10 @@ pub fn failure_of_call_in_interleaving<'a>(
     let states = states_along_calls(alloc, scene, before)?;
     let states = states.as_slice();
     let expression = match states.get(before.len()) {
-        Some(state) => callback_expression(alloc, scene, callback, &call, state)?,
+        Some(state) => callback_expression_with_failing_part(alloc, scene, callback, &call, state)?,
         None => None,
     };
-    let walk = walk_with_blocked_calls(alloc, scene, word, before, states)?;
+    let walk = interleaving_states_with_blocked_calls(alloc, scene, word, before, states)?;
     Ok(Failure {
         callback,
         call: Some(call),
@@ -252,8 +265,8 @@ pub fn failure_at_fault_place<'a>(
         callback: Callback::Init,
         call: None,
         fault,
-        expression: init_expression(alloc, scene)?,
-        walk: Some(walk_without_states(alloc, word)?),
+        expression: init_expression_with_failing_part(alloc, scene)?,
+        walk: Some(interleaving_without_states(alloc, word)?),
     })
 }
 
@@ -304,7 +317,7 @@ pub fn command_callback_failure_after_script<'a>(
     let states = states_along_calls(alloc, scene, calls)?;
     let states = states.as_slice();
     let expression = match states.get(calls.len()) {
-        Some(state) => command_callback_expression(alloc, scene, state)?,
+        Some(state) => command_expression_with_failing_part(alloc, scene, state)?,
         None => None,
     };
     Ok(Failure {
@@ -312,6 +325,6 @@ pub fn command_callback_failure_after_script<'a>(
         call: None,
         fault: Some(fault),
         expression,
-        walk: Some(walk_along_calls(alloc, scene, &[], calls, states)?),
+        walk: Some(interleaving_states_along_calls(alloc, scene, &[], calls, states)?),
     })
 }

@@ -3,9 +3,9 @@ ghost use Rattle.std.specs.Prelude.{◌≡◌};
 ghost use Rattle.pst_judge.specs.Judgement.{HistoryMatches, IsJudgement};
 
 use crate::bounded::StepLimitedCallbacks;
-use crate::drawing::search_as_graphviz_text;
+use crate::drawing::search_graph_as_graphviz_text;
 use crate::explanation::MOST_STEPS;
-use crate::path::calls_of_highlighted_interleaving;
+use crate::path::calls_of_displayed_interleaving;
 use crate::search::{build_search_graph_of_interleaving, build_truncated_search_graph};
 use pst_case::Run;
 use pst_eval::Callbacks;
@@ -43,7 +43,7 @@ fn is_explained(judged: &Judged) -> bool {
 /// draws only these and the dead ends beside them, unless `all` is true. The search expands the first 300 positions,
 /// and all along the bold edges; positions that it leaves are dashed, and the title says so. If the search for the
 /// interleaving takes more than 2,000,000 steps of callbacks, no edge is bold, and the title says so.
-pub fn draw_search_as_graphviz<C: Callbacks>(
+pub fn graphviz_text_of_item_search<C: Callbacks>(
     callbacks: &C,
     alloc: Global,
     typed: &Typed,
@@ -58,7 +58,7 @@ pub fn draw_search_as_graphviz<C: Callbacks>(
 {
     let scene = scene_of_run(alloc, typed, run)?;
     let bounded = StepLimitedCallbacks::new(callbacks, MOST_STEPS);
-    let shown = bounded.none_if_out_of_steps(calls_of_highlighted_interleaving(
+    let shown = bounded.none_if_out_of_steps(calls_of_displayed_interleaving(
         &bounded, alloc, &scene, judged,
     ))?;
     let is_shown = shown.is_some();
@@ -73,5 +73,5 @@ pub fn draw_search_as_graphviz<C: Callbacks>(
     let verdict = verdict.as_str();
     let rest = graph_title_addition(is_path, is_shown);
     let title = format!(in alloc; "{number} {verdict}{rest}")?;
-    search_as_graphviz_text(alloc, &scene, &search, title.as_str())
+    search_graph_as_graphviz_text(alloc, &scene, &search, title.as_str())
 }

@@ -2,9 +2,9 @@
 //!
 //! `explain_item` explains one item, whose judgement is known. `append_explanation_text` writes the explanation in the
 //! form of `pst explain`. `tree_places_in_input` finds where the trees of an input begin, `explain_fault_in_generation`
-//! explains why no case can be generated, and `explain_broken_run` which reply makes a run broken. Cores and the states
-//! of interleavings are from `pst_reasons`, the interleavings from `pst_judge`. The rest of an explanation, and its text,
-//! is tested and not proved.
+//! explains why no case can be generated, and `broken_reply_sentence_of_run` says which reply makes a run broken. Cores
+//! and the states of interleavings are from `pst_reasons`, the interleavings from `pst_judge`. The rest of an
+//! explanation, and its text, is tested and not proved.
 //!
 //! `AllocError` means that an allocation failed.
 #![tactic(auto)]
@@ -36,10 +36,12 @@ pub use bounded::StepLimitedCallbacks;
 pub use breaking::{CallWithBrokenReply, broken_reply_sentence_of_run};
 pub use cores::{Core, CoreAnswer};
 pub use explanation::{Explanation, JudgementReason, explain_item};
-pub use failures::{ExpressionWithFailingPart, ExpressionWithNameValues, FailingPart, Failure};
-pub use graph::draw_search_as_graphviz;
+pub use failures::{
+    ExpressionWithFailingPart, ExpressionWithNameValues, Failure, FaultyPartWithValues,
+};
+pub use graph::graphviz_text_of_item_search;
 pub use places::{TreePlace, tree_places_in_input};
-pub use position::Position;
+pub use position::GraphPosition;
 pub use scripts::explain_fault_in_generation;
 pub use search::{GraphMove, MoveTarget, SearchGraph, build_search_graph_if_small};
 pub use text::{

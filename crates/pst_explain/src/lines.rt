@@ -2,7 +2,7 @@
 
 use std::alloc::{AllocError, Global};
 
-/// What the bytes of a comment or a text are part of.
+/// What a byte is part of.
 #[derive(Clone, Copy, Debug, Drop, PartialEq, Eq)]
 enum LexerMode {
     /// Between trees or in a word.

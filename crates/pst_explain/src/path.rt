@@ -91,7 +91,7 @@ fn calls_before_case_failure<'a>(
 }
 
 /// The commands of the interleaving that a graph shows; none if the item is valid or has a reply that is no value.
-pub fn calls_of_highlighted_interleaving<'a, C: Callbacks>(
+pub fn calls_of_displayed_interleaving<'a, C: Callbacks>(
     callbacks: &C,
     alloc: Global,
     scene: &Scene<'a>,

@@ -86,8 +86,8 @@ fn place_of_input_line<'a>(
     }
 }
 
-/// Returns the place at which each tree of an input begins. The input must be read without a fault. `text` is the text
-/// of `files`, which may be empty if the input is not from files.
+/// Returns the place at which each top-level node of an input begins. The input must be read without a fault. `text` is
+/// the text of `files`, which may be empty if the input is not from files.
 pub fn tree_places_in_input<'a>(
     alloc: Global,
     files: &[SourceFile<'a>],

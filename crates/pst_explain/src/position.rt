@@ -6,7 +6,7 @@ use std::alloc::{AllocError, Global};
 
 /// A position of a search: how many commands of each part come before it, and the state there.
 #[derive(Drop)]
-pub struct Position {
+pub struct GraphPosition {
     /// How many commands of the prefix, of each branch and of the suffix come before it.
     counts: Vec<usize>,
     /// The state there.
@@ -33,23 +33,27 @@ fn zero_for_each_part(alloc: Global, scene: &Scene<'_>) -> Result<Vec<usize>, Al
     Ok(counts)
 }
 
-impl Position {
+impl GraphPosition {
     /// The position before all commands.
-    pub fn first(alloc: Global, scene: &Scene<'_>, state: Value) -> Result<Position, AllocError> {
+    pub fn initial(
+        alloc: Global,
+        scene: &Scene<'_>,
+        state: Value,
+    ) -> Result<GraphPosition, AllocError> {
         let counts = zero_for_each_part(alloc, scene)?;
-        Ok(Position { counts, state })
+        Ok(GraphPosition { counts, state })
     }
 
     /// A position that is equal to this one.
-    pub fn copied(&self, alloc: Global) -> Result<Position, AllocError> {
-        Ok(Position {
+    pub fn copy(&self, alloc: Global) -> Result<GraphPosition, AllocError> {
+        Ok(GraphPosition {
             counts: Vec::from_slice(alloc, self.counts.as_slice())?,
             state: self.state.copy(alloc)?,
         })
     }
 
     /// Whether the two positions are equal.
-    pub fn equals(&self, other: &Position) -> bool {
+    pub fn equals(&self, other: &GraphPosition) -> bool {
         self.counts.as_slice() == other.counts.as_slice() && self.state == other.state
     }
 
@@ -74,14 +78,14 @@ impl Position {
         scene: &Scene<'_>,
         part: CasePart,
         state: Value,
-    ) -> Result<Position, AllocError> {
+    ) -> Result<GraphPosition, AllocError> {
         let wanted = index_of_case_part(scene, part);
         let mut counts = Vec::new(alloc);
         for (number, count) in self.counts.iter().enumerate() {
             let more = usize::from(number == wanted);
             counts.push(count.saturating_add(more))?;
         }
-        Ok(Position { counts, state })
+        Ok(GraphPosition { counts, state })
     }
 
     /// The next command of a part.

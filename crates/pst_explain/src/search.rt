@@ -1,6 +1,6 @@
 //! The search of an item: positions, and the commands that it tries there.
 
-use crate::position::Position;
+use crate::position::GraphPosition;
 use pst_scene::{Call, DeadEnd, Outcome, Scene, initial_state, outcome_of_call_on_state};
 use std::alloc::{AllocError, Global};
 
@@ -32,7 +32,7 @@ pub struct GraphMove<'a> {
 pub struct SearchGraph<'a> {
     /// The positions that it met. The first is the one before all commands; the list is empty if the initial state
     /// faults.
-    pub positions: Vec<Position>,
+    pub positions: Vec<GraphPosition>,
     /// The commands that it tried.
     pub moves: Vec<GraphMove<'a>>,
     /// The numbers of the moves along the displayed interleaving.
@@ -40,7 +40,7 @@ pub struct SearchGraph<'a> {
 }
 
 /// The index of the position in `positions`.
-fn index_of_position(positions: &[Position], wanted: &Position) -> Option<usize> {
+fn index_of_position(positions: &[GraphPosition], wanted: &GraphPosition) -> Option<usize> {
     for (number, position) in positions.iter().enumerate() {
         if position.equals(wanted) {
             return Some(number);
@@ -77,7 +77,7 @@ impl<'a> SearchGraph<'a> {
     }
 
     /// The number of the position. Adds the position if it is new.
-    fn find_or_add_position(&mut self, position: Position) -> Result<usize, AllocError> {
+    fn find_or_add_position(&mut self, position: GraphPosition) -> Result<usize, AllocError> {
         if let Some(number) = index_of_position(self.positions.as_slice(), &position) {
             return Ok(number);
         }
@@ -92,7 +92,7 @@ impl<'a> SearchGraph<'a> {
         alloc: Global,
         scene: &Scene<'a>,
         from: usize,
-        position: &Position,
+        position: &GraphPosition,
         call: Call<'a>,
     ) -> Result<(), AllocError> {
         let target = match outcome_of_call_on_state(alloc, scene, &position.state, &call)? {
@@ -112,7 +112,7 @@ impl<'a> SearchGraph<'a> {
         alloc: Global,
         scene: &Scene<'a>,
         from: usize,
-        position: &Position,
+        position: &GraphPosition,
     ) -> Result<(), AllocError> {
         let next = position.next_calls(alloc, scene)?;
         for call in &next {
@@ -131,7 +131,7 @@ impl<'a> SearchGraph<'a> {
         let Some(position) = self.positions.get(from) else {
             return Ok(());
         };
-        let position = position.copied(alloc)?;
+        let position = position.copy(alloc)?;
         self.add_moves_of_next_calls(alloc, scene, from, &position)
     }
 
@@ -198,7 +198,7 @@ impl<'a> SearchGraph<'a> {
 }
 
 /// The search of an item along the commands of the displayed interleaving.
-fn build_search_along_calls<'a>(
+fn build_search_graph_along_calls<'a>(
     alloc: Global,
     scene: &Scene<'a>,
     shown: &[Call<'_>],
@@ -207,14 +207,14 @@ fn build_search_along_calls<'a>(
     let Some(state) = initial_state(alloc, scene)? else {
         return Ok(search);
     };
-    let first = Position::first(alloc, scene, state)?;
+    let first = GraphPosition::initial(alloc, scene, state)?;
     search.positions.push(first)?;
     search.expand_and_mark_shown_along_calls(alloc, scene, shown)?;
     Ok(search)
 }
 
 /// The new number of position `number`, if only the positions `kept` stay.
-fn number_among_kept_positions(kept: &[usize], number: usize) -> usize {
+fn renumbered_position(kept: &[usize], number: usize) -> usize {
     kept.iter().filter(|other| **other < number).count()
 }
 
@@ -244,20 +244,20 @@ fn is_move_kept(step: &GraphMove<'_>, is_shown: bool, kept: &[usize]) -> bool {
 }
 
 /// The target of a move, with its new number if only the positions `kept` stay.
-fn target_among_kept_positions<'a>(target: MoveTarget<'a>, kept: &[usize]) -> MoveTarget<'a> {
+fn renumbered_target<'a>(target: MoveTarget<'a>, kept: &[usize]) -> MoveTarget<'a> {
     match target {
-        MoveTarget::Position(to) => MoveTarget::Position(number_among_kept_positions(kept, to)),
+        MoveTarget::Position(to) => MoveTarget::Position(renumbered_position(kept, to)),
         MoveTarget::DeadEnd(why) => MoveTarget::DeadEnd(why),
     }
 }
 
 /// A move, with the new numbers of its positions if only the positions `kept` stay.
-fn move_among_kept_positions<'a>(step: GraphMove<'a>, kept: &[usize]) -> GraphMove<'a> {
+fn renumbered_move<'a>(step: GraphMove<'a>, kept: &[usize]) -> GraphMove<'a> {
     let GraphMove { from, call, target } = step;
     GraphMove {
-        from: number_among_kept_positions(kept, from),
+        from: renumbered_position(kept, from),
         call,
-        target: target_among_kept_positions(target, kept),
+        target: renumbered_target(target, kept),
     }
 }
 
@@ -275,7 +275,7 @@ impl<'a> SearchGraph<'a> {
             return Ok(());
         }
         let number = self.moves.len();
-        self.moves.push(move_among_kept_positions(step, kept))?;
+        self.moves.push(renumbered_move(step, kept))?;
         if is_shown {
             self.shown.push(number)?;
         }
@@ -299,7 +299,7 @@ impl<'a> SearchGraph<'a> {
     /// Adds those of the positions that have the numbers `kept`.
     fn add_kept_positions(
         &mut self,
-        positions: Vec<Position>,
+        positions: Vec<GraphPosition>,
         kept: &[usize],
     ) -> Result<(), AllocError> {
         for (number, position) in positions.into_iter().enumerate() {
@@ -311,13 +311,13 @@ impl<'a> SearchGraph<'a> {
     }
 }
 
-/// The displayed interleaving, with the dead ends beside it, and nothing else of its search.
+/// The search graph of the displayed interleaving and of the dead ends next to it.
 pub fn build_search_graph_of_interleaving<'a>(
     alloc: Global,
     scene: &Scene<'a>,
     shown: &[Call<'_>],
 ) -> Result<SearchGraph<'a>, AllocError> {
-    let search = build_search_along_calls(alloc, scene, shown)?;
+    let search = build_search_graph_along_calls(alloc, scene, shown)?;
     let kept = positions_along_shown_interleaving(alloc, &search)?;
     let mut path = SearchGraph::empty(alloc);
     let SearchGraph {
@@ -337,7 +337,7 @@ pub fn build_truncated_search_graph<'a>(
     scene: &Scene<'a>,
     shown: &[Call<'_>],
 ) -> Result<SearchGraph<'a>, AllocError> {
-    let mut search = build_search_along_calls(alloc, scene, shown)?;
+    let mut search = build_search_graph_along_calls(alloc, scene, shown)?;
     search.expand_remaining_positions_up_to_limit(alloc, scene)?;
     Ok(search)
 }
@@ -350,7 +350,7 @@ pub fn build_search_graph_if_small<'a>(
     shown: &[Call<'_>],
     most: usize,
 ) -> Result<Option<SearchGraph<'a>>, AllocError> {
-    let mut search = build_search_along_calls(alloc, scene, shown)?;
+    let mut search = build_search_graph_along_calls(alloc, scene, shown)?;
     if search.expand_all_within_limit(alloc, scene, most)? {
         Ok(Some(search))
     } else {

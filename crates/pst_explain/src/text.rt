@@ -6,7 +6,7 @@ use crate::explanation::{Explanation, JudgementReason};
 use crate::failure_text::add_failure_explanation_text;
 use crate::parts::add_marked_run_text;
 use crate::walk_text::{
-    add_blocked_calls_text, add_explaining_interleaving_text, add_states_along_walk_text,
+    add_blocked_calls_text, add_explaining_interleaving_text, add_interleaving_states_text,
 };
 use crate::walks::InterleavingStates;
 use pst_judge::{Judged, Verdict};
@@ -98,7 +98,7 @@ fn add_furthest_interleaving_text(
     };
     let sentence = furthest_interleaving_sentence(alloc, far, walk.word.as_slice())?;
     page.add_sentence(alloc, 2, sentence.as_slice())?;
-    add_states_along_walk_text(page, alloc, model, walk)?;
+    add_interleaving_states_text(page, alloc, model, walk)?;
     add_blocked_calls_text(page, alloc, model, walk.stopped.as_slice())
 }
 
@@ -187,8 +187,8 @@ pub fn append_explanation_text(
     Ok(page.into_text())
 }
 
-/// An explanation after `text` as `append_explanation_text` gives it, in the colors of a terminal: the core is red, and the answers
-/// that the model allows are green.
+/// Returns `text` and after it the text of an explanation in the colors of a terminal, in lines of at most `width`
+/// bytes: the core is red, and the answers that the model allows are green.
 pub fn append_colored_explanation_text(
     text: Vec<u8>,
     alloc: Global,

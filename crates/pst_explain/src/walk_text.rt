@@ -25,7 +25,7 @@ fn add_state_cell_and_end_row(
 }
 
 /// Adds the initial state, and the commands as rows with the state after each.
-pub fn add_states_along_walk_text(
+pub fn add_interleaving_states_text(
     page: &mut Page,
     alloc: Global,
     model: &Source,
@@ -46,7 +46,7 @@ pub fn add_states_along_walk_text(
 }
 
 /// The sentence on a precondition that is not true.
-fn untrue_precondition_sentence(
+fn precondition_note_on_explained_run(
     alloc: Global,
     model: &Source,
     call: &Call<'_>,
@@ -87,9 +87,14 @@ pub fn add_explaining_interleaving_text(
     model: &Source,
     walk: &InterleavingStates<'_>,
 ) -> Result<(), AllocError> {
-    add_states_along_walk_text(page, alloc, model, walk)?;
+    add_interleaving_states_text(page, alloc, model, walk)?;
     for step in &walk.steps {
-        let sentence = untrue_precondition_sentence(alloc, model, &step.call, step.precondition)?;
+        let sentence = precondition_note_on_explained_run(
+            alloc,
+            model,
+            &step.call,
+            step.precondition,
+        )?;
         if let Some(sentence) = sentence {
             page.add_sentence(alloc, 2, sentence.as_slice())?;
         }

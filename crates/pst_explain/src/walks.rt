@@ -60,7 +60,7 @@ impl<'a> InterleavingStates<'a> {
 }
 
 /// Returns the walk of the interleaving `word`, without any state.
-pub fn walk_without_states<'a>(
+pub fn interleaving_without_states<'a>(
     alloc: Global,
     word: &[usize],
 ) -> Result<InterleavingStates<'a>, AllocError> {
@@ -106,7 +106,7 @@ fn steps_along_calls<'a>(
 }
 
 /// Returns the walk along `calls`, as far as `states` has states: the initial one, and one after each command in turn.
-pub fn walk_along_calls<'a>(
+pub fn interleaving_states_along_calls<'a>(
     alloc: Global,
     scene: &Scene<'_>,
     word: &[usize],
@@ -114,7 +114,7 @@ pub fn walk_along_calls<'a>(
     states: &[Value],
 ) -> Result<InterleavingStates<'a>, AllocError> {
     let Some((first, others)) = states.split_first() else {
-        return walk_without_states(alloc, word);
+        return interleaving_without_states(alloc, word);
     };
     let word = Vec::from_slice(alloc, word)?;
     let start = first.copy(alloc)?;
@@ -169,7 +169,7 @@ pub fn blocked_calls_after<'a>(
 }
 
 /// Returns the walk of the interleaving `word`, up to the first command of which `condition` is not true.
-fn walk_until_condition_fails<'a, C: Callbacks, A: Condition>(
+fn interleaving_states_until_failure<'a, C: Callbacks, A: Condition>(
     callbacks: &C,
     condition: &A,
     alloc: Global,
@@ -189,12 +189,12 @@ fn walk_until_condition_fails<'a, C: Callbacks, A: Condition>(
         history,
     };
     let states = states(&run, condition, word)?;
-    walk_along_calls(alloc, scene, word, order.as_slice(), states.as_slice())
+    interleaving_states_along_calls(alloc, scene, word, order.as_slice(), states.as_slice())
 }
 
 /// Returns the walk of the interleaving `word`, which explains the item: since each postcondition is true along it, none
 /// is evaluated again.
-pub fn explaining_walk<'a, C: Callbacks>(
+pub fn states_of_explaining_interleaving<'a, C: Callbacks>(
     callbacks: &C,
     alloc: Global,
     scene: &Scene<'a>,
@@ -209,7 +209,7 @@ pub fn explaining_walk<'a, C: Callbacks>(
         first: &[],
         rest: &[],
     };
-    walk_until_condition_fails(callbacks, &none, alloc, scene, history, word)
+    interleaving_states_until_failure(callbacks, &none, alloc, scene, history, word)
 }
 
 /// Returns each of the commands `next`, with the reason why its postcondition is not true on `state`.
@@ -228,7 +228,7 @@ fn calls_blocked_by_postcondition<'a>(
 }
 
 /// Returns the interleaving that gets furthest: `far` commands are right in it before a wrong one.
-pub fn furthest_walk<'a, C: Callbacks>(
+pub fn states_of_furthest_interleaving<'a, C: Callbacks>(
     callbacks: &C,
     alloc: Global,
     scene: &Scene<'a>,
@@ -241,7 +241,7 @@ pub fn furthest_walk<'a, C: Callbacks>(
 {
     let shaped = &scene.run.shaped;
     let (_, word) = verdict_with_interleaving(callbacks, alloc, shaped, history)?;
-    let mut walk = walk_until_condition_fails(
+    let mut walk = interleaving_states_until_failure(
         callbacks,
         &Postconditions,
         alloc,

@@ -1,6 +1,8 @@
 //! Writers that fail in the middle of a text.
 
-use crate::commands::{COMMANDS, Command, answer_of, spoken};
+use crate::commands::{
+    COMMANDS, ProgramCommand, run_command_with_failing_writer, status_and_output_text,
+};
 use pst_cli::Status;
 use pst_tests::support::{COUNTER, ONE};
 use std::alloc::{AllocError, Global};
@@ -15,16 +17,16 @@ const ITEMS: &str = "
 
 /// Returns how many proper prefixes of `whole` the command misses. For each prefix, it runs the command on a writer
 /// that fails after it, and expects the status 3 and just this prefix as output.
-fn misses<R: Threads + Wait + Sync>(
+fn count_missed_output_prefixes<R: Threads + Wait + Sync>(
     rt: &R,
     alloc: Global,
-    command: Command,
+    command: ProgramCommand,
     input: &[u8],
     whole: &[u8],
 ) -> Result<usize, AllocError> {
     let mut misses: usize = 0;
     for room in 0..whole.len() {
-        let cut = answer_of(rt, alloc, command, input, room)?;
+        let cut = run_command_with_failing_writer(rt, alloc, command, input, room)?;
         let is_lost = cut.status == Status::Lost && cut.failed;
         if !is_lost || cut.bytes.as_slice() != &whole[..room] {
             misses = misses.saturating_add(1);
@@ -33,38 +35,39 @@ fn misses<R: Threads + Wait + Sync>(
     Ok(misses)
 }
 
-/// Prints the command's output, or its status code alone for `list` and `explain`, and the result of `misses`.
-fn print_command<R: Threads + Wait + Sync + Print + AllocGlobal>(
+/// Prints the command's output, or its status code alone for `list` and `explain`, and the result of
+/// `count_missed_output_prefixes`.
+fn print_command_with_missed_prefixes<R: Threads + Wait + Sync + Print + AllocGlobal>(
     rt: &R,
-    command: Command,
+    command: ProgramCommand,
     input: &[u8],
 ) -> io::Result<()> {
     let alloc = rt.alloc();
-    let whole = answer_of(rt, alloc, command, input, usize::MAX)?;
-    let missed = misses(rt, alloc, command, input, whole.bytes.as_slice())?;
+    let whole = run_command_with_failing_writer(rt, alloc, command, input, usize::MAX)?;
+    let missed = count_missed_output_prefixes(rt, alloc, command, input, whole.bytes.as_slice())?;
     let name = command.name();
     match command {
-        Command::List | Command::Explain => {
+        ProgramCommand::List | ProgramCommand::Explain => {
             let code = whole.status.code();
             println!(rt; "{name}: {missed} beginnings missed of status {code}")
         }
         _ => {
-            let text = spoken(alloc, &whole)?;
+            let text = status_and_output_text(alloc, &whole)?;
             println!(rt; "{name}: {missed} beginnings missed of {text}")
         }
     }
 }
 
-/// Calls `print_command` for each command. The campaign tests a counter without a read; the other commands get a
-/// counter with two items.
+/// Calls `print_command_with_missed_prefixes` for each command. The campaign tests a counter without a read; the other
+/// commands get a counter with two items.
 pub fn print_beginnings<R: Threads + Wait + Sync + Print + AllocGlobal>(rt: &R) -> io::Result<()> {
     let items = format!(in rt.alloc(); "{COUNTER}{ITEMS}")?;
     for command in COMMANDS {
         let input = match command {
-            Command::Campaign => ONE,
+            ProgramCommand::Campaign => ONE,
             _ => items.as_str(),
         };
-        print_command(rt, command, input.as_bytes())?;
+        print_command_with_missed_prefixes(rt, command, input.as_bytes())?;
     }
     Ok(())
 }

@@ -9,14 +9,14 @@ use pst_cli::{
 };
 use pst_samples::Stuck;
 use pst_system::BoxedSystem;
-use pst_tests::short::Short;
+use pst_tests::short::LimitedSink;
 use std::alloc::{AllocError, Global};
 use std::sync::Wait;
 use std::thread::Threads;
 
 /// A command of the program.
 #[derive(Clone, Copy, Drop)]
-pub enum Command {
+pub enum ProgramCommand {
     Check,
     List,
     Judge,
@@ -28,32 +28,32 @@ pub enum Command {
 }
 
 /// All commands.
-pub const COMMANDS: [Command; 6] = [
-    Command::Check,
-    Command::List,
-    Command::Judge,
-    Command::Explain,
-    Command::Run,
-    Command::Campaign,
+pub const COMMANDS: [ProgramCommand; 6] = [
+    ProgramCommand::Check,
+    ProgramCommand::List,
+    ProgramCommand::Judge,
+    ProgramCommand::Explain,
+    ProgramCommand::Run,
+    ProgramCommand::Campaign,
 ];
 
-impl Command {
+impl ProgramCommand {
     /// Returns the command's name on the command line.
     pub fn name(self) -> &'static str {
         match self {
-            Command::Check => "check",
-            Command::List => "list",
-            Command::Judge => "judge",
-            Command::Explain => "explain",
-            Command::Run => "run",
-            Command::Campaign => "campaign",
+            ProgramCommand::Check => "check",
+            ProgramCommand::List => "list",
+            ProgramCommand::Judge => "judge",
+            ProgramCommand::Explain => "explain",
+            ProgramCommand::Run => "run",
+            ProgramCommand::Campaign => "campaign",
         }
     }
 }
 
 /// The status and the output of a command.
 #[derive(Drop)]
-pub struct Answer {
+pub struct CommandOutput {
     pub status: Status,
     pub bytes: Vec<u8>,
     /// Whether the writer failed.
@@ -61,11 +61,11 @@ pub struct Answer {
 }
 
 /// Runs a campaign on the system `stuck`, and writes its report.
-fn write_campaign<R: Threads + Wait + Sync>(
+fn run_campaign_on_stuck_system<R: Threads + Wait + Sync>(
     rt: &R,
     alloc: Global,
     input: &[u8],
-    short: &mut Short,
+    short: &mut LimitedSink,
 ) -> Result<Status, AllocError>
     requires { short.old.failed ≡ false }
 {
@@ -79,11 +79,11 @@ fn write_campaign<R: Threads + Wait + Sync>(
 }
 
 /// Drives the items on the system `stuck`, and writes the results.
-fn write_runs<R: Threads + Wait>(
+fn run_items_on_stuck_system<R: Threads + Wait>(
     rt: &R,
     alloc: Global,
     input: &[u8],
-    short: &mut Short,
+    short: &mut LimitedSink,
 ) -> Result<Status, AllocError>
     requires { short.old.failed ≡ false }
 {
@@ -92,19 +92,19 @@ fn write_runs<R: Threads + Wait>(
 }
 
 /// Runs the command on `input`, with a writer that fails after `room` bytes.
-pub fn answer_of<R: Threads + Wait + Sync>(
+pub fn run_command_with_failing_writer<R: Threads + Wait + Sync>(
     rt: &R,
     alloc: Global,
-    command: Command,
+    command: ProgramCommand,
     input: &[u8],
     room: usize,
-) -> Result<Answer, AllocError> {
-    let mut short = Short::new(alloc, room);
+) -> Result<CommandOutput, AllocError> {
+    let mut short = LimitedSink::new(alloc, room);
     let status = match command {
-        Command::Check => check_text(alloc, input, &mut short),
-        Command::List => list_text(alloc, input, &mut short),
-        Command::Judge => judge_text(rt, alloc, input, &mut short),
-        Command::Explain => {
+        ProgramCommand::Check => check_text(alloc, input, &mut short),
+        ProgramCommand::List => list_text(alloc, input, &mut short),
+        ProgramCommand::Judge => judge_text(rt, alloc, input, &mut short),
+        ProgramCommand::Explain => {
             let asked = ExplainOptions {
                 files: &[],
                 chosen: Chosen::All,
@@ -113,15 +113,15 @@ pub fn answer_of<R: Threads + Wait + Sync>(
             };
             explain_text(rt, alloc, input, asked, &mut short)
         }
-        Command::Run => write_runs(rt, alloc, input, &mut short)?,
-        Command::Campaign => write_campaign(rt, alloc, input, &mut short)?,
+        ProgramCommand::Run => run_items_on_stuck_system(rt, alloc, input, &mut short)?,
+        ProgramCommand::Campaign => run_campaign_on_stuck_system(rt, alloc, input, &mut short)?,
     };
-    let Short {
+    let LimitedSink {
         bytes,
         room: _,
         failed,
     } = short;
-    Ok(Answer {
+    Ok(CommandOutput {
         status,
         bytes,
         failed,
@@ -150,7 +150,7 @@ fn push_lines(alloc: Global, text: &mut String, output: &str) -> Result<(), Allo
 }
 
 /// Returns the status code and the output, with `, ` between its lines.
-pub fn spoken(alloc: Global, answer: &Answer) -> Result<String, AllocError> {
+pub fn status_and_output_text(alloc: Global, answer: &CommandOutput) -> Result<String, AllocError> {
     let code = answer.status.code();
     let mut text = format!(in alloc; "{code}")?;
     match std::str::from_utf8(answer.bytes.as_slice()) {

@@ -1,6 +1,8 @@
 //! A file that is cut off after each of its bytes.
 
-use crate::commands::{Answer, Command, answer_of, spoken};
+use crate::commands::{
+    CommandOutput, ProgramCommand, run_command_with_failing_writer, status_and_output_text,
+};
 use pst_tests::support::COUNTER;
 use std::alloc::{AllocError, Global};
 use std::io;
@@ -50,9 +52,9 @@ fn print_cut<R: Print + AllocGlobal>(
     rt: &R,
     cut: &[u8],
     model: usize,
-    judged: &Answer,
+    judged: &CommandOutput,
 ) -> io::Result<()> {
-    let text = spoken(rt.alloc(), judged)?;
+    let text = status_and_output_text(rt.alloc(), judged)?;
     let want = wanted(rt.alloc(), cut, model)?;
     if text.as_str() != want.as_str() {
         let length = cut.len();
@@ -62,8 +64,8 @@ fn print_cut<R: Print + AllocGlobal>(
 }
 
 /// Prints the answer for the whole file.
-fn print_whole<R: Print + AllocGlobal>(rt: &R, judged: &Answer) -> io::Result<()> {
-    let text = spoken(rt.alloc(), judged)?;
+fn print_whole<R: Print + AllocGlobal>(rt: &R, judged: &CommandOutput) -> io::Result<()> {
+    let text = status_and_output_text(rt.alloc(), judged)?;
     println!(rt; "not cut: {text}")
 }
 
@@ -73,9 +75,21 @@ pub fn print_cuts<R: Threads + Wait + Sync + Print + AllocGlobal>(rt: &R) -> io:
     let (model, file) = model_and_file(alloc)?;
     for length in 0..file.len() {
         let cut = &file.as_bytes()[..length];
-        let judged = answer_of(rt, alloc, Command::Judge, cut, usize::MAX)?;
+        let judged = run_command_with_failing_writer(
+            rt,
+            alloc,
+            ProgramCommand::Judge,
+            cut,
+            usize::MAX,
+        )?;
         print_cut(rt, cut, model, &judged)?;
     }
-    let judged = answer_of(rt, alloc, Command::Judge, file.as_bytes(), usize::MAX)?;
+    let judged = run_command_with_failing_writer(
+        rt,
+        alloc,
+        ProgramCommand::Judge,
+        file.as_bytes(),
+        usize::MAX,
+    )?;
     print_whole(rt, &judged)
 }

@@ -64,7 +64,7 @@ pub const LIMITS: [(&str, Deep); 16] = [
 const GETS: &str = "(case (prefix (get)) (left (get)) (right (get)))
 (run (prefix (get)) (left (get)) (right (get)) (replies (0) (0) (0)))";
 
-/// So many beginnings, a text, and as many ends.
+/// `count` times `beginning`, then `inner`, then `count` times `end`.
 pub fn wrapped(
     alloc: Global,
     beginning: &str,
@@ -104,7 +104,11 @@ fn functions(alloc: Global) -> Result<String, AllocError> {
 
 /// A run whose last answer is wrong. Its postcondition applies the functions; the body of the first nests `inner` in
 /// `levels` levels.
-fn failing(alloc: Global, inner: &str, levels: usize) -> Result<String, AllocError> {
+fn input_with_failing_postcondition(
+    alloc: Global,
+    inner: &str,
+    levels: usize,
+) -> Result<String, AllocError> {
     let body = wrapped(alloc, "(not ", inner, ")", levels)?;
     let functions = functions_from(alloc, body.as_str())?;
     format!(in alloc;
@@ -148,7 +152,7 @@ fn argument(alloc: Global) -> Result<String, AllocError> {
     format!(in alloc; "{COUNTER}(case (prefix (inc {value})) (left) (right))")
 }
 
-/// A model of 45 trees beside those of its calls: 3 of each call of `get`, and 4 of each of `put`.
+/// A model of 45 trees, not counting those of its calls: 3 of each call of `get`, and 4 of each of `put`.
 fn trees(alloc: Global, gets: usize, puts: usize) -> Result<String, AllocError> {
     let gets = "(call get)".repeat(alloc, gets)?;
     let puts = "(call put 1)".repeat(alloc, puts)?;
@@ -161,7 +165,7 @@ fn trees(alloc: Global, gets: usize, puts: usize) -> Result<String, AllocError> 
 
 /// A model with a run of two calls. `parts` are its head, state type, initial state, precondition, next state and
 /// postcondition.
-fn kept(alloc: Global, parts: [&str; 6]) -> Result<String, AllocError> {
+fn input_with_large_state(alloc: Global, parts: [&str; 6]) -> Result<String, AllocError> {
     let [head, state, init, pre, next, post] = parts;
     let run = "(run (prefix) (left (get)) (right (get)) (replies () (0) (0)))";
     format!(in alloc;
@@ -218,11 +222,11 @@ const CALLS: &str = "(model wide (state int) (init 0)
 (case (prefix) (left (inc)) (right))";
 
 /// The text of a model and its items.
-pub fn text_of(alloc: Global, deep: Deep) -> Result<String, AllocError> {
+pub fn text_of_input_at_limit(alloc: Global, deep: Deep) -> Result<String, AllocError> {
     match deep {
         Deep::Functions => functions(alloc),
-        Deep::FalseFunctions => failing(alloc, "true", 63),
-        Deep::FaultingFunctions => failing(alloc, "(= 0 (div 1 0))", 61),
+        Deep::FalseFunctions => input_with_failing_postcondition(alloc, "true", 63),
+        Deep::FaultingFunctions => input_with_failing_postcondition(alloc, "(= 0 (div 1 0))", 61),
         Deep::Expressions => expressions(alloc),
         Deep::Types => types(alloc),
         Deep::Reply => reply(alloc, 97),
@@ -230,9 +234,9 @@ pub fn text_of(alloc: Global, deep: Deep) -> Result<String, AllocError> {
         Deep::Argument => argument(alloc),
         Deep::Trees => trees(alloc, 6_649, 2),
         Deep::TooManyTrees => trees(alloc, 6_648, 3),
-        Deep::List => kept(alloc, LIST),
-        Deep::Text => kept(alloc, TEXT),
-        Deep::Map => kept(alloc, MAP),
+        Deep::List => input_with_large_state(alloc, LIST),
+        Deep::Text => input_with_large_state(alloc, TEXT),
+        Deep::Map => input_with_large_state(alloc, MAP),
         Deep::Commands => commands(alloc, 64),
         Deep::TooManyCommands => commands(alloc, 65),
         Deep::Calls => String::from_str(alloc, CALLS),

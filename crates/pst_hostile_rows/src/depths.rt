@@ -1,8 +1,10 @@
 //! The commands' answers at the limits of the language, and one past them. Nothing may exhaust a stack, in any kind of
 //! thread: those that judge many items, those that drive branches, and the workers that run trials.
 
-use crate::commands::{COMMANDS, Command, answer_of, spoken};
-use crate::deep::{Deep, LIMITS, text_of};
+use crate::commands::{
+    COMMANDS, ProgramCommand, run_command_with_failing_writer, status_and_output_text,
+};
+use crate::deep::{Deep, LIMITS, text_of_input_at_limit};
 use pst_messages::input_warnings_text;
 use pst_sexpr::{Out, read, write};
 use pst_sources::SourceFile;
@@ -13,7 +15,7 @@ use std::thread::Threads;
 use std::{io, slice};
 
 /// Reads the model at the beginning of `text`.
-fn model_of(alloc: Global, text: &[u8]) -> Option<Model> {
+fn read_model_of_text(alloc: Global, text: &[u8]) -> Option<Model> {
     let trees = read(alloc, text).ok()?;
     read_model(alloc, trees.as_slice()).ok()
 }
@@ -31,22 +33,22 @@ fn printed(alloc: Global, model: &Model) -> Option<Vec<u8>> {
 /// Returns whether the model at the beginning of `text`, printed and read again, is the same model. `None` if the text
 /// or its printed form has no model.
 fn is_printed(alloc: Global, text: &[u8]) -> Option<bool> {
-    let model = model_of(alloc, text)?;
-    let again = model_of(alloc, printed(alloc, &model)?.as_slice())?;
+    let model = read_model_of_text(alloc, text)?;
+    let again = read_model_of_text(alloc, printed(alloc, &model)?.as_slice())?;
     Some(*again.source() == *model.source())
 }
 
 /// Runs the command and prints its output, or its status code alone for the commands with long output.
-fn print_command<R: Threads + Wait + Sync + Print + AllocGlobal>(
+fn print_command_output<R: Threads + Wait + Sync + Print + AllocGlobal>(
     rt: &R,
-    command: Command,
+    command: ProgramCommand,
     text: &[u8],
 ) -> io::Result<()> {
-    let answered = answer_of(rt, rt.alloc(), command, text, usize::MAX)?;
+    let answered = run_command_with_failing_writer(rt, rt.alloc(), command, text, usize::MAX)?;
     let name = command.name();
     match command {
-        Command::Check | Command::Judge | Command::Run => {
-            let text = spoken(rt.alloc(), &answered)?;
+        ProgramCommand::Check | ProgramCommand::Judge | ProgramCommand::Run => {
+            let text = status_and_output_text(rt.alloc(), &answered)?;
             println!(rt; "  {name}: {text}")
         }
         _ => {
@@ -71,9 +73,13 @@ fn print_warnings<R: Print + AllocGlobal>(rt: &R, text: &str) -> io::Result<()> 
 }
 
 /// Returns the commands to run: only the first three if the initial state or the precondition takes long to compute.
-fn asked(deep: Deep) -> &'static [Command] {
+fn commands_to_run(deep: Deep) -> &'static [ProgramCommand] {
     match deep {
-        Deep::List | Deep::Map | Deep::Calls => &[Command::Check, Command::List, Command::Judge],
+        Deep::List | Deep::Map | Deep::Calls => &[
+            ProgramCommand::Check,
+            ProgramCommand::List,
+            ProgramCommand::Judge,
+        ],
         _ => &COMMANDS,
     }
 }
@@ -91,10 +97,10 @@ fn print_printed<R: Print + AllocGlobal>(rt: &R, name: &str, text: &[u8]) -> io:
 /// Prints each command's answer at each limit, and the warnings.
 pub fn print_depths<R: Threads + Wait + Sync + Print + AllocGlobal>(rt: &R) -> io::Result<()> {
     for (name, deep) in &LIMITS {
-        let text = text_of(rt.alloc(), *deep)?;
+        let text = text_of_input_at_limit(rt.alloc(), *deep)?;
         print_printed(rt, *name, text.as_bytes())?;
-        for command in asked(*deep) {
-            print_command(rt, *command, text.as_bytes())?;
+        for command in commands_to_run(*deep) {
+            print_command_output(rt, *command, text.as_bytes())?;
         }
         print_warnings(rt, text.as_str())?;
     }

@@ -1,14 +1,14 @@
 //! The output for cases on systems that give wrong answers, and for campaigns on systems that cannot be reset.
 
-use crate::commands::{Answer, spoken};
+use crate::commands::{CommandOutput, status_and_output_text};
 use crate::models::TYPES;
-use crate::odd::Odd;
+use crate::odd::NamedOddAnswers;
 use pst_campaign::Unwatched;
 use pst_cli::{Status, campaign_text, run_text};
 use pst_system::BoxedSystem;
-use pst_tests::short::Short;
+use pst_tests::short::LimitedSink;
 use pst_tests::support::{COUNTER, ONE};
-use pst_tests::systems::{Liar, NoGet, Resets};
+use pst_tests::systems::{Liar, LimitedResets, NoGet};
 use pst_trial::Settings;
 use std::alloc::{AllocError, Global};
 use std::io;
@@ -58,19 +58,19 @@ fn print_answer<R: Print + AllocGlobal>(
     rt: &R,
     name: &str,
     status: Status,
-    short: Short,
+    short: LimitedSink,
 ) -> io::Result<()> {
-    let Short {
+    let LimitedSink {
         bytes,
         room: _,
         failed,
     } = short;
-    let answer = Answer {
+    let answer = CommandOutput {
         status,
         bytes,
         failed,
     };
-    let text = spoken(rt.alloc(), &answer)?;
+    let text = status_and_output_text(rt.alloc(), &answer)?;
     println!(rt; "{name}: {text}")
 }
 
@@ -83,7 +83,7 @@ fn print_run<R: Threads + Wait + Print + AllocGlobal>(
     system: &mut BoxedSystem,
 ) -> io::Result<()> {
     let input = format!(in rt.alloc(); "{model} {items}")?;
-    let mut short = Short::new(rt.alloc(), usize::MAX);
+    let mut short = LimitedSink::new(rt.alloc(), usize::MAX);
     let status = run_text(rt, rt.alloc(), input.as_bytes(), system, &mut short);
     print_answer(rt, name, status, short)
 }
@@ -96,7 +96,7 @@ fn case_of(alloc: Global, operation: &str, name: &str) -> Result<String, AllocEr
 /// Prints the result of each odd answer in the prefix of a case, and of a case with odd answers in its branches.
 fn print_odd<R: Threads + Wait + Print + AllocGlobal>(rt: &R) -> io::Result<()> {
     let alloc = rt.alloc();
-    let mut odd: BoxedSystem = Box::new(alloc, Odd::new(alloc))?;
+    let mut odd: BoxedSystem = Box::new(alloc, NamedOddAnswers::new(alloc))?;
     for (operation, name) in &CALLS {
         let items = case_of(alloc, *operation, *name)?;
         print_run(rt, "odd", TYPES, items.as_str(), &mut odd)?;
@@ -115,7 +115,7 @@ fn print_others<R: Threads + Wait + Print + AllocGlobal>(rt: &R) -> io::Result<(
     let mut no_get: BoxedSystem = Box::new(alloc, NoGet::new())?;
     let items = "(case (prefix (inc)) (left (get) (inc)) (right (inc)))";
     print_run(rt, "no get", COUNTER, items, &mut no_get)?;
-    let mut one_reset: BoxedSystem = Box::new(alloc, Resets::new(1))?;
+    let mut one_reset: BoxedSystem = Box::new(alloc, LimitedResets::new(1))?;
     let items = "(case (prefix) (left) (right)) (case (prefix) (left) (right))";
     print_run(rt, "one reset", COUNTER, items, &mut one_reset)
 }
@@ -131,8 +131,8 @@ fn print_campaign<R: Threads + Wait + Sync + Print + AllocGlobal>(
         return Ok(());
     }
     let mut systems: Vec<BoxedSystem> = Vec::new(alloc);
-    systems.push(Box::new(alloc, Resets::new(resets))?)?;
-    let mut short = Short::new(alloc, usize::MAX);
+    systems.push(Box::new(alloc, LimitedResets::new(resets))?)?;
+    let mut short = LimitedSink::new(alloc, usize::MAX);
     let input = ONE.as_bytes();
     let status = campaign_text(rt, alloc, input, settings, systems, &Unwatched, &mut short);
     let code = status.code();

@@ -1,6 +1,9 @@
 //! Malformed and extreme inputs.
 
-use crate::commands::{Answer, COMMANDS, Command, answer_of, spoken};
+use crate::commands::{
+    COMMANDS, CommandOutput, ProgramCommand, run_command_with_failing_writer,
+    status_and_output_text,
+};
 use pst_cli::Status;
 use pst_tests::support::COUNTER;
 use std::alloc::{AllocError, Global};
@@ -41,9 +44,15 @@ fn print_judged<R: Threads + Wait + Sync + Print + AllocGlobal>(
     rt: &R,
     name: &str,
     input: &[u8],
-) -> io::Result<Answer> {
-    let judged = answer_of(rt, rt.alloc(), Command::Judge, input, usize::MAX)?;
-    let text = spoken(rt.alloc(), &judged)?;
+) -> io::Result<CommandOutput> {
+    let judged = run_command_with_failing_writer(
+        rt,
+        rt.alloc(),
+        ProgramCommand::Judge,
+        input,
+        usize::MAX,
+    )?;
+    let text = status_and_output_text(rt.alloc(), &judged)?;
     println!(rt; "{name}: {text}")?;
     Ok(judged)
 }
@@ -51,13 +60,13 @@ fn print_judged<R: Threads + Wait + Sync + Print + AllocGlobal>(
 /// Prints the answer of a command if it is no refusal, or another one than that of `judge`.
 fn print_other<R: Print + AllocGlobal>(
     rt: &R,
-    command: Command,
-    other: &Answer,
-    judged: &Answer,
+    command: ProgramCommand,
+    other: &CommandOutput,
+    judged: &CommandOutput,
 ) -> io::Result<()> {
     if other.status != Status::Refused || other.bytes.as_slice() != judged.bytes.as_slice() {
         let word = command.name();
-        let text = spoken(rt.alloc(), other)?;
+        let text = status_and_output_text(rt.alloc(), other)?;
         println!(rt; "  {word}: {text}")?;
     }
     Ok(())
@@ -75,7 +84,7 @@ fn print_input<R: Threads + Wait + Sync + Print + AllocGlobal>(
         return Ok(());
     }
     for command in COMMANDS {
-        let other = answer_of(rt, alloc, command, input, usize::MAX)?;
+        let other = run_command_with_failing_writer(rt, alloc, command, input, usize::MAX)?;
         print_other(rt, command, &other, &judged)?;
     }
     Ok(())

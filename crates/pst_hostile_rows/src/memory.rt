@@ -1,5 +1,5 @@
-//! Calls of the libraries. The gate compares their results with ample memory; `stress/memory` lets each growth of
-//! memory fail in turn, for each call.
+//! Calls of the libraries. The gate compares their results with ample memory; `stress/memory` makes each
+//! allocation fail in turn, for each call.
 
 mod judging;
 mod reading;

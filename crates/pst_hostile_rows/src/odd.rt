@@ -58,7 +58,7 @@ pub fn mixed(alloc: Global, levels: usize) -> Result<Value, AllocError> {
         value = match level % 5 {
             0 => Value::List(alone(alloc, value)?),
             1 => Value::Tuple(alone(alloc, value)?),
-            2 => map_of(alloc, value)?,
+            2 => map_of_one_key(alloc, value)?,
             3 => Value::Ref(3, Boxed::new(alloc, value)?),
             _ => Value::Call(0, alone(alloc, value)?),
         };
@@ -100,7 +100,7 @@ fn large_map(alloc: Global, count: u16) -> Result<Value, AllocError> {
 }
 
 /// A map of the key 1 to `value`.
-fn map_of(alloc: Global, value: Value) -> Result<Value, AllocError> {
+fn map_of_one_key(alloc: Global, value: Value) -> Result<Value, AllocError> {
     let mut keys = Items::new(alloc);
     keys.push(Key::Int(1))?;
     let values = alone(alloc, value)?;
@@ -131,8 +131,8 @@ fn odd_map(alloc: Global, name: &str) -> Result<Option<Value>, AllocError> {
     let value = match name {
         "4097 keys" => large_map(alloc, 4_097),
         "4096 keys" => large_map(alloc, 4_096),
-        "a variable in a map" => map_of(alloc, Value::Var(1)),
-        "a reference in a map" => map_of(alloc, reference(alloc)?),
+        "a variable in a map" => map_of_one_key(alloc, Value::Var(1)),
+        "a reference in a map" => map_of_one_key(alloc, reference(alloc)?),
         _ => return odd_keys(alloc, name),
     };
     Ok(Some(value?))
@@ -208,18 +208,18 @@ pub fn odd_value(alloc: Global, name: &str) -> Result<Option<Value>, AllocError>
 
 /// A system that answers the value named by a call's argument, and refuses a call that names no value.
 #[derive(Drop)]
-pub struct Odd {
+pub struct NamedOddAnswers {
     alloc: Global,
 }
 
-impl Odd {
+impl NamedOddAnswers {
     /// Returns a system that allocates its answers with `alloc`.
-    pub fn new(alloc: Global) -> Odd {
-        Odd { alloc }
+    pub fn new(alloc: Global) -> NamedOddAnswers {
+        NamedOddAnswers { alloc }
     }
 }
 
-impl System for Odd {
+impl System for NamedOddAnswers {
     ghost use Rattle.std.specs.Prelude.{⊤};
 
     ghost answers = { λ _ _ _. ⊤ };

@@ -8,7 +8,7 @@ use pst_ledger::Closed;
 use pst_report::{ReportFault, report};
 use pst_samples::Stuck;
 use pst_system::BoxedSystem;
-use pst_tests::short::Short;
+use pst_tests::short::LimitedSink;
 use pst_trial::{Plan, Record};
 use std::alloc::{AllocError, Global};
 use std::io;
@@ -17,17 +17,21 @@ use std::thread::Threads;
 
 /// Returns how many proper prefixes of the report `report` misses, and the length of the report. For each prefix, the
 /// writer fails after it; `report` misses it unless it returns `WriteFailed` and writes just this prefix.
-fn misses(alloc: Global, plan: &Plan, closed: &Closed<Record>) -> Result<(usize, usize), AllocError>
+fn count_missed_report_prefixes(
+    alloc: Global,
+    plan: &Plan,
+    closed: &Closed<Record>,
+) -> Result<(usize, usize), AllocError>
     requires trials { length closed.now ≡ plan.now.settings.trials }
     requires records { AreOf plan.now 0 closed.now }
 {
-    let mut whole = Short::new(alloc, usize::MAX);
+    let mut whole = LimitedSink::new(alloc, usize::MAX);
     let mut misses: usize = 0;
     if report(alloc, plan, closed, &mut whole).is_err() {
         return Err(AllocError);
     }
     for room in 0..whole.bytes.len() {
-        let mut short = Short::new(alloc, room);
+        let mut short = LimitedSink::new(alloc, room);
         let answer = report(alloc, plan, closed, &mut short);
         let is_failed = matches!(answer, Err(ReportFault::WriteFailed)) && short.failed;
         if !is_failed || short.bytes.as_slice() != &whole.bytes.as_slice()[..room] {
@@ -37,7 +41,7 @@ fn misses(alloc: Global, plan: &Plan, closed: &Closed<Record>) -> Result<(usize,
     Ok((misses, whole.bytes.len()))
 }
 
-/// Runs a campaign and returns the `misses` of its report.
+/// Runs a campaign and returns the `count_missed_report_prefixes` of its report.
 fn missed_by<R: Threads + Wait + Sync>(
     rt: &R,
     alloc: Global,
@@ -45,12 +49,12 @@ fn missed_by<R: Threads + Wait + Sync>(
     systems: Vec<BoxedSystem>,
 ) -> Result<(usize, usize), AllocError> {
     match campaign(rt, alloc, plan.clone()?, systems, &Unwatched) {
-        Ok(closed) => misses(alloc, &plan, &closed),
+        Ok(closed) => count_missed_report_prefixes(alloc, &plan, &closed),
         Err(_) => Err(AllocError),
     }
 }
 
-/// Prints how many proper prefixes of a report are missed, as `misses` counts them.
+/// Prints how many proper prefixes of a report are missed, as `count_missed_report_prefixes` counts them.
 pub fn print_report<R: Threads + Wait + Sync + Print + AllocGlobal>(rt: &R) -> io::Result<()> {
     let alloc = rt.alloc();
     let Ok(plan) = plan_of(alloc, 20) else {

@@ -30,7 +30,7 @@ fn is_copied(alloc: Global, value: &Value, bytes: usize) -> Result<bool, AllocEr
 }
 
 /// Returns whether `value` is found in a set of it alone, and its plain form is not.
-fn is_told_from_plain(alloc: Global, value: &Value) -> Result<bool, AllocError> {
+fn is_distinct_from_plain_in_set(alloc: Global, value: &Value) -> Result<bool, AllocError> {
     let plain = value.plain(alloc)?;
     is_found(alloc, value, &plain)
 }
@@ -39,28 +39,33 @@ fn is_told_from_plain(alloc: Global, value: &Value) -> Result<bool, AllocError> 
 /// written correctly in this thread. Its `Debug` form has more than `bytes` bytes.
 fn is_handled(alloc: Global, value: &Value, bytes: usize) -> Result<bool, AllocError> {
     let is_copied = is_copied(alloc, value, bytes)?;
-    let is_found = is_told_from_plain(alloc, value)?;
+    let is_found = is_distinct_from_plain_in_set(alloc, value)?;
     Ok(is_copied && is_found && value.uses(1) && !value.uses(2))
 }
 
 /// Returns whether a value of `levels` levels is copied, compared, hashed, searched and written correctly in this
 /// thread.
-fn is_kept(alloc: Global, levels: usize) -> Result<bool, AllocError> {
+fn is_nested_value_handled(alloc: Global, levels: usize) -> Result<bool, AllocError> {
     let value = mixed(alloc, levels)?;
     is_handled(alloc, &value, levels)
 }
 
-/// Returns whether `is_kept` holds in threads of their own.
+/// Returns whether `is_nested_value_handled` holds in threads of their own.
 fn are_kept_in_threads<R: Threads + Sync>(
     rt: &R,
     alloc: Global,
     levels: usize,
 ) -> Result<bool, AllocError> {
-    let answers = thread::map_indices(rt, alloc, 4, &|_number: usize| is_kept(alloc, levels))?;
+    let answers = thread::map_indices(
+        rt,
+        alloc,
+        4,
+        &|_number: usize| is_nested_value_handled(alloc, levels),
+    )?;
     Ok(answers.iter().all(|kept| *kept == Ok(true)))
 }
 
-/// Returns whether `is_kept` holds in the threads that judge many items.
+/// Returns whether `is_nested_value_handled` holds in the threads that judge many items.
 fn are_kept_in_parallel<R: Threads + Sync>(
     rt: &R,
     alloc: Global,
@@ -70,15 +75,15 @@ fn are_kept_in_parallel<R: Threads + Sync>(
     let answers = all
         .par_iter()
         .with_min_len(1)
-        .map(|levels: &usize| is_kept(alloc, *levels))
+        .map(|levels: &usize| is_nested_value_handled(alloc, *levels))
         .collect::<Result<Vec<bool>, AllocError>>(rt, alloc)??;
     Ok(answers.iter().all(|kept| *kept))
 }
 
-/// Prints whether `is_kept` holds for 100 levels in each kind of thread.
+/// Prints whether `is_nested_value_handled` holds for 100 levels in each kind of thread.
 pub fn print_values<R: Threads + Sync + Print + AllocGlobal>(rt: &R) -> io::Result<()> {
     let alloc = rt.alloc();
-    let here = is_kept(alloc, 100)?;
+    let here = is_nested_value_handled(alloc, 100)?;
     let threads = are_kept_in_threads(rt, alloc, 100)?;
     let parallel = are_kept_in_parallel(rt, alloc, 100)?;
     println!(rt;

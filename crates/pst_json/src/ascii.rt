@@ -30,7 +30,7 @@ fn hex_digit(number: u32) -> u8
 
 /// Adds a byte.
 #[tactic(auto, using(crate::proofs::PageTexts::page_push))]
-pub fn add_json_byte(out: &mut Vec<u8>, byte: u8) -> Result<(), AllocError>
+pub fn push_byte(out: &mut Vec<u8>, byte: u8) -> Result<(), AllocError>
     requires { IsPageByte byte }
     ensures { IsPageText out.old.items → OnOk result (IsPageText out.new.items) }
 {
@@ -42,12 +42,12 @@ pub fn add_json_byte(out: &mut Vec<u8>, byte: u8) -> Result<(), AllocError>
 fn add_json_unicode_escape(out: &mut Vec<u8>, number: u32) -> Result<(), AllocError>
     ensures { IsPageText out.old.items → OnOk result (IsPageText out.new.items) }
 {
-    add_json_byte(out, b'\\')?;
-    add_json_byte(out, b'u')?;
-    add_json_byte(out, hex_digit(number / 4096 % 16))?;
-    add_json_byte(out, hex_digit(number / 256 % 16))?;
-    add_json_byte(out, hex_digit(number / 16 % 16))?;
-    add_json_byte(out, hex_digit(number % 16))
+    push_byte(out, b'\\')?;
+    push_byte(out, b'u')?;
+    push_byte(out, hex_digit(number / 4096 % 16))?;
+    push_byte(out, hex_digit(number / 256 % 16))?;
+    push_byte(out, hex_digit(number / 16 % 16))?;
+    push_byte(out, hex_digit(number % 16))
 }
 
 /// Adds the escape of a character, or the escapes of its two surrogates if its number has more than 16 bits.
@@ -83,7 +83,7 @@ pub fn page_safe_ascii_json(alloc: Global, json: &str) -> Result<Vec<u8>, AllocE
     let mut out = Vec::new(alloc);
     for character in json.chars() {
         match unescaped_json_byte(character) {
-            Some(byte) => add_json_byte(&mut out, byte)?,
+            Some(byte) => push_byte(&mut out, byte)?,
             None => add_json_escaped_character(&mut out, character)?,
         }
     }

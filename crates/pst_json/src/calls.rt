@@ -32,7 +32,7 @@ pub fn write_json_call_member(
 }
 
 /// Writes a reply.
-fn write_json_reply(
+fn write_json_reply_with_text(
     writer: &mut Writer<Global>,
     alloc: Global,
     model: &Source,
@@ -87,13 +87,13 @@ fn write_json_call(
     write_json_values_member(writer, alloc, "args", scene.model, args)?;
     if let Some(reply) = call.reply {
         writer.key("reply")?;
-        write_json_reply(writer, alloc, scene.model, reply)?;
+        write_json_reply_with_text(writer, alloc, scene.model, reply)?;
     }
     writer.end_object()
 }
 
 /// Writes the member `calls`: all calls of an item, in the order of their numbers.
-pub fn write_json_calls(
+pub fn write_json_calls_member(
     writer: &mut Writer<Global>,
     alloc: Global,
     scene: &Scene<'_>,

@@ -1,7 +1,7 @@
 //! Cores.
 
 use crate::calls::write_json_call_member;
-use crate::reasons::write_json_false_postcondition;
+use crate::reasons::write_json_false_postcondition_members;
 use crate::values::{write_json_state_member, write_json_values_member};
 use crate::walks::write_json_interleaving_member;
 use crate::writing::write_json_bool_member;
@@ -11,7 +11,7 @@ use pst_model::Source;
 use std::alloc::{AllocError, Global};
 
 /// Writes the member `why`: why an answer is wrong in an interleaving, and this interleaving.
-fn write_json_why_answer_is_wrong(
+fn write_json_why_answer_is_wrong_member(
     writer: &mut Writer<Global>,
     alloc: Global,
     model: &Source,
@@ -19,7 +19,7 @@ fn write_json_why_answer_is_wrong(
 ) -> Result<(), AllocError> {
     writer.key("why")?;
     writer.begin_object()?;
-    write_json_false_postcondition(writer, alloc, model, &wrong.falsity)?;
+    write_json_false_postcondition_members(writer, alloc, model, &wrong.falsity)?;
     if !wrong.word.is_empty() {
         write_json_interleaving_member(writer, alloc, "by", wrong.word.as_slice())?;
     }
@@ -28,7 +28,7 @@ fn write_json_why_answer_is_wrong(
 }
 
 /// Writes the member `allowed`: what the model allows in place of an answer.
-fn write_json_allowed_answers(
+fn write_json_allowed_answers_member(
     writer: &mut Writer<Global>,
     alloc: Global,
     model: &Source,
@@ -39,7 +39,7 @@ fn write_json_allowed_answers(
     let values = answer.allowed.values.as_slice();
     write_json_values_member(writer, alloc, "values", model, values)?;
     write_json_bool_member(writer, "all", answer.allowed.all)?;
-    write_json_bool_member(writer, "only", answer.has_all_allowed_answers())?;
+    write_json_bool_member(writer, "only", answer.is_allowed_list_complete())?;
     writer.end_object()
 }
 
@@ -53,16 +53,16 @@ fn write_json_core_answer(
     writer.begin_object()?;
     write_json_call_member(writer, alloc, &answer.call)?;
     if let Some(wrong) = &answer.wrong {
-        write_json_why_answer_is_wrong(writer, alloc, model, wrong)?;
+        write_json_why_answer_is_wrong_member(writer, alloc, model, wrong)?;
     }
     if !answer.allowed.values.is_empty() {
-        write_json_allowed_answers(writer, alloc, model, answer)?;
+        write_json_allowed_answers_member(writer, alloc, model, answer)?;
     }
     writer.end_object()
 }
 
 /// Writes the member `core`, and `prefix` if all of its calls are in the prefix.
-pub fn write_json_core(
+pub fn write_json_core_members(
     writer: &mut Writer<Global>,
     alloc: Global,
     model: &Source,

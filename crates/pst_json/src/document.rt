@@ -2,8 +2,8 @@
 ghost use Rattle.std.specs.Prelude.{IfOk};
 ghost use Rattle.pst_json.specs.Page.{IsPageText};
 
-use crate::ascii::add_json_byte;
-use crate::models::write_json_model;
+use crate::ascii::push_byte;
+use crate::models::write_json_model_member;
 use crate::writing::into_ascii_json;
 use json::Writer;
 use pst_model::Source;
@@ -34,7 +34,7 @@ pub struct CampaignFacts {
 }
 
 /// Writes the version and the names of the files, the first members of a document.
-fn write_json_version_and_files(
+fn write_json_version_and_file_members(
     writer: &mut Writer<Global>,
     files: &[SourceFile<'_>],
 ) -> Result<(), AllocError> {
@@ -49,7 +49,7 @@ fn write_json_version_and_files(
 }
 
 /// Writes the member `campaign`.
-fn write_json_campaign(
+fn write_json_campaign_member(
     writer: &mut Writer<Global>,
     facts: CampaignFacts,
 ) -> Result<(), AllocError> {
@@ -75,15 +75,15 @@ fn json_document_first_line(
 {
     let mut writer = Writer::new(Vec::new(alloc));
     writer.begin_object()?;
-    write_json_version_and_files(&mut writer, files)?;
+    write_json_version_and_file_members(&mut writer, files)?;
     if let Some(facts) = campaign {
-        write_json_campaign(&mut writer, facts)?;
+        write_json_campaign_member(&mut writer, facts)?;
     }
-    write_json_model(&mut writer, alloc, model)?;
+    write_json_model_member(&mut writer, alloc, model)?;
     writer.key("items")?;
     writer.begin_array()?;
     let mut start = into_ascii_json(alloc, writer)?;
-    add_json_byte(&mut start, b'\n')?;
+    push_byte(&mut start, b'\n')?;
     Ok(start)
 }
 
@@ -98,7 +98,8 @@ pub fn json_document_start(
     json_document_first_line(alloc, files, None, model)
 }
 
-/// The first line of a document whose items are the failures of a campaign, as `json_document_start` gives it, with the campaign.
+/// The first line of a document whose items are the failures of a campaign: the version, the names of the files, the
+/// campaign, the model, and the start of the items.
 pub fn json_campaign_document_start(
     alloc: Global,
     files: &[SourceFile<'_>],

@@ -6,7 +6,7 @@ use crate::writing::{
     write_json_text_member, write_json_type,
 };
 use json::Writer;
-use pst_explain::{CallWithBrokenReply, ExpressionWithNameValues, FailingPart, Failure};
+use pst_explain::{CallWithBrokenReply, ExpressionWithNameValues, Failure, FaultyPartWithValues};
 use pst_model::Source;
 use pst_scene::{Binding, value_text};
 use std::alloc::{AllocError, Global};
@@ -26,7 +26,7 @@ fn write_json_name_and_value(
 }
 
 /// Writes the members of an expression, and its names with their values.
-fn write_json_evaluated_expression(
+fn write_json_evaluated_expression_members(
     writer: &mut Writer<Global>,
     alloc: Global,
     model: &Source,
@@ -42,15 +42,15 @@ fn write_json_evaluated_expression(
 }
 
 /// Writes the member `part`: the part that faults.
-fn write_json_failing_part(
+fn write_json_failing_part_member(
     writer: &mut Writer<Global>,
     alloc: Global,
     model: &Source,
-    part: &FailingPart<'_>,
+    part: &FaultyPartWithValues<'_>,
 ) -> Result<(), AllocError> {
     writer.key("part")?;
     writer.begin_object()?;
-    write_json_evaluated_expression(writer, alloc, model, &part.evaluated)?;
+    write_json_evaluated_expression_members(writer, alloc, model, &part.evaluated)?;
     if let Some(name) = part.function {
         write_json_text_member(writer, "function", name)?;
     }
@@ -58,7 +58,7 @@ fn write_json_failing_part(
 }
 
 /// Writes the call whose callback fails, or `null`, and the callback.
-fn write_json_failing_callback(
+fn write_json_failing_call_members(
     writer: &mut Writer<Global>,
     alloc: Global,
     failure: &Failure<'_>,
@@ -80,7 +80,7 @@ fn write_json_failing_callback(
 }
 
 /// Writes the member `callback`: the callback that fails, its expression, and the part of it that faults.
-pub fn write_json_failure(
+pub fn write_json_failing_callback_member(
     writer: &mut Writer<Global>,
     alloc: Global,
     model: &Source,
@@ -88,18 +88,18 @@ pub fn write_json_failure(
 ) -> Result<(), AllocError> {
     writer.key("callback")?;
     writer.begin_object()?;
-    write_json_failing_callback(writer, alloc, failure)?;
+    write_json_failing_call_members(writer, alloc, failure)?;
     if let Some(expression) = &failure.expression {
-        write_json_evaluated_expression(writer, alloc, model, &expression.whole)?;
+        write_json_evaluated_expression_members(writer, alloc, model, &expression.whole)?;
         if let Some(part) = &expression.part {
-            write_json_failing_part(writer, alloc, model, part)?;
+            write_json_failing_part_member(writer, alloc, model, part)?;
         }
     }
     writer.end_object()
 }
 
 /// Writes the member `broken`: the call whose reply is not a value, and the expected type.
-pub fn write_json_broken_reply(
+pub fn write_json_broken_reply_member(
     writer: &mut Writer<Global>,
     alloc: Global,
     broken: &CallWithBrokenReply<'_>,

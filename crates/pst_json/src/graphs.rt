@@ -1,12 +1,12 @@
 //! Searches of items.
 
 use crate::calls::write_json_call_member;
-use crate::reasons::write_json_dead_end;
+use crate::reasons::write_json_dead_end_member;
 use crate::values::write_json_state_member;
 use crate::writing::{write_json_bool_member, write_json_number_member};
 use json::Writer;
 use pst_explain::{
-    Explanation, GraphMove, JudgementReason, MoveTarget, Position, SearchGraph,
+    Explanation, GraphMove, GraphPosition, JudgementReason, MoveTarget, SearchGraph,
     build_search_graph_if_small,
 };
 use pst_model::Source;
@@ -38,8 +38,7 @@ fn count_interleavings(scene: &Scene<'_>) -> u64 {
     orders
 }
 
-/// Returns whether the counts of positions and moves of a search, and the member `graph`, may be written: only if the
-/// item is neither explained nor valid nor broken. The member `search` is always written.
+/// Returns whether an item can have a search graph: it is unexplained, faulted or invalid.
 fn can_have_json_search_graph(reason: &JudgementReason<'_>) -> bool {
     matches!(
         reason,
@@ -50,12 +49,12 @@ fn can_have_json_search_graph(reason: &JudgementReason<'_>) -> bool {
 }
 
 /// Returns the commands of the interleaving of the verdict.
-fn calls_of_explanation_walk<'a>(
+fn calls_of_explanation_interleaving<'a>(
     alloc: Global,
     explanation: &Explanation<'a>,
 ) -> Result<Vec<Call<'a>>, AllocError> {
     let mut calls = Vec::new(alloc);
-    if let Some(walk) = explanation.reason.walk() {
+    if let Some(walk) = explanation.reason.interleaving() {
         for step in &walk.steps {
             calls.push(step.call)?;
         }
@@ -71,7 +70,7 @@ fn search_graph_to_write_if_small<'a>(
     if !can_have_json_search_graph(&explanation.reason) {
         return Ok(None);
     }
-    let shown = calls_of_explanation_walk(alloc, explanation)?;
+    let shown = calls_of_explanation_interleaving(alloc, explanation)?;
     let scene = &explanation.scene;
     match build_search_graph_if_small(alloc, scene, shown.as_slice(), MOST_POSITIONS)? {
         Some(search) if !search.positions.is_empty() => Ok(Some(search)),
@@ -84,7 +83,7 @@ fn write_json_position(
     writer: &mut Writer<Global>,
     alloc: Global,
     model: &Source,
-    position: &Position,
+    position: &GraphPosition,
 ) -> Result<(), AllocError> {
     writer.begin_object()?;
     writer.key("at")?;
@@ -115,13 +114,13 @@ fn write_json_move(
                 write_json_bool_member(writer, "on", true)?;
             }
         }
-        MoveTarget::DeadEnd(why) => write_json_dead_end(writer, alloc, model, why)?,
+        MoveTarget::DeadEnd(why) => write_json_dead_end_member(writer, alloc, model, why)?,
     }
     writer.end_object()
 }
 
 /// Writes the member `nodes`: the positions.
-fn write_json_positions(
+fn write_json_positions_member(
     writer: &mut Writer<Global>,
     alloc: Global,
     model: &Source,
@@ -136,7 +135,7 @@ fn write_json_positions(
 }
 
 /// Writes the member `edges`: the moves.
-fn write_json_moves(
+fn write_json_moves_member(
     writer: &mut Writer<Global>,
     alloc: Global,
     model: &Source,
@@ -152,7 +151,7 @@ fn write_json_moves(
 }
 
 /// Writes the member `graph`.
-fn write_json_graph(
+fn write_json_graph_member(
     writer: &mut Writer<Global>,
     alloc: Global,
     model: &Source,
@@ -160,14 +159,14 @@ fn write_json_graph(
 ) -> Result<(), AllocError> {
     writer.key("graph")?;
     writer.begin_object()?;
-    write_json_positions(writer, alloc, model, search)?;
-    write_json_moves(writer, alloc, model, search)?;
+    write_json_positions_member(writer, alloc, model, search)?;
+    write_json_moves_member(writer, alloc, model, search)?;
     writer.end_object()
 }
 
 /// Writes the member `search`: how many interleavings there are, and how many positions and moves
 /// `search` has.
-fn write_json_search_counts(
+fn write_json_search_member(
     writer: &mut Writer<Global>,
     scene: &Scene<'_>,
     search: Option<&SearchGraph<'_>>,
@@ -190,9 +189,9 @@ pub fn write_json_search_and_graph_if_small(
     explanation: &Explanation<'_>,
 ) -> Result<(), AllocError> {
     let search = search_graph_to_write_if_small(alloc, explanation)?;
-    write_json_search_counts(writer, &explanation.scene, search.as_ref())?;
+    write_json_search_member(writer, &explanation.scene, search.as_ref())?;
     match &search {
-        Some(search) => write_json_graph(writer, alloc, explanation.scene.model, search),
+        Some(search) => write_json_graph_member(writer, alloc, explanation.scene.model, search),
         None => Ok(()),
     }
 }

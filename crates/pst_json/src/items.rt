@@ -2,11 +2,11 @@
 ghost use Rattle.std.specs.Prelude.{IfOk};
 ghost use Rattle.pst_json.specs.Page.{IsPageText};
 
-use crate::calls::write_json_calls;
-use crate::cores::write_json_core;
-use crate::failures::{write_json_broken_reply, write_json_failure};
+use crate::calls::write_json_calls_member;
+use crate::cores::write_json_core_members;
+use crate::failures::{write_json_broken_reply_member, write_json_failing_callback_member};
 use crate::graphs::write_json_search_and_graph_if_small;
-use crate::walks::write_json_walk;
+use crate::walks::write_json_walk_member;
 use crate::writing::{into_ascii_json, write_json_number_member, write_json_text_member};
 use json::Writer;
 use pst_explain::{Explanation, JudgementReason, TreePlace};
@@ -28,7 +28,7 @@ fn json_verdict_word(judged: &Judged) -> &'static str {
 }
 
 /// Writes the member `at`: the file and the line on which an item begins.
-fn write_json_item_place(
+fn write_json_item_place_member(
     writer: &mut Writer<Global>,
     place: &TreePlace<'_>,
 ) -> Result<(), AllocError> {
@@ -42,7 +42,7 @@ fn write_json_item_place(
 }
 
 /// Writes the members of an item except its reason and its search.
-fn write_json_item_head(
+fn write_json_item_head_members(
     writer: &mut Writer<Global>,
     alloc: Global,
     explanation: &Explanation<'_>,
@@ -54,9 +54,9 @@ fn write_json_item_head(
     write_json_text_member(writer, "verdict", json_verdict_word(explanation.judged))?;
     write_json_text_member(writer, "line", line.as_str())?;
     if let Some(place) = &explanation.place {
-        write_json_item_place(writer, place)?;
+        write_json_item_place_member(writer, place)?;
     }
-    write_json_calls(writer, alloc, &explanation.scene)
+    write_json_calls_member(writer, alloc, &explanation.scene)
 }
 
 /// Writes the member `left_out`: the members that are not whole, because their search takes too many steps.
@@ -77,14 +77,14 @@ fn write_json_left_out_names_if_any(
         }
         None => writer.string("core")?,
     }
-    if reason.walk().is_none() {
+    if reason.interleaving().is_none() {
         writer.string("walk")?;
     }
     writer.end_array()
 }
 
 /// Writes the reason of the judgement.
-fn write_json_verdict_reason(
+fn write_json_reason_members(
     writer: &mut Writer<Global>,
     alloc: Global,
     explanation: &Explanation<'_>,
@@ -92,23 +92,23 @@ fn write_json_verdict_reason(
     let model = explanation.scene.model;
     let reason = &explanation.reason;
     if let Some(core) = reason.core() {
-        write_json_core(writer, alloc, model, core)?;
+        write_json_core_members(writer, alloc, model, core)?;
     }
-    if let Some(walk) = reason.walk() {
-        write_json_walk(writer, alloc, explanation, walk)?;
+    if let Some(walk) = reason.interleaving() {
+        write_json_walk_member(writer, alloc, explanation, walk)?;
     }
     if let Some(failure) = reason.failure() {
-        write_json_failure(writer, alloc, model, failure)?;
+        write_json_failing_callback_member(writer, alloc, model, failure)?;
     }
     if let JudgementReason::Broken(broken) = reason {
-        write_json_broken_reply(writer, alloc, broken)?;
+        write_json_broken_reply_member(writer, alloc, broken)?;
     }
     write_json_left_out_names_if_any(writer, reason)
 }
 
 /// Returns the explanation of an item as a JSON object, without a line end. `trial` is the number of its trial, if it is a
 /// failure of a campaign.
-fn item_json_with_optional_trial(
+fn explanation_json_with_optional_trial(
     alloc: Global,
     explanation: &Explanation<'_>,
     trial: Option<usize>,
@@ -117,30 +117,34 @@ fn item_json_with_optional_trial(
 {
     let mut writer = Writer::new(Vec::new(alloc));
     writer.begin_object()?;
-    write_json_item_head(&mut writer, alloc, explanation)?;
+    write_json_item_head_members(&mut writer, alloc, explanation)?;
     if let Some(trial) = trial {
         write_json_number_member(&mut writer, "trial", trial)?;
     }
-    write_json_verdict_reason(&mut writer, alloc, explanation)?;
+    write_json_reason_members(&mut writer, alloc, explanation)?;
     write_json_search_and_graph_if_small(&mut writer, alloc, explanation)?;
     writer.end_object()?;
     into_ascii_json(alloc, writer)
 }
 
 /// Returns the explanation of an item as a JSON object, without a line end.
-pub fn item_json(alloc: Global, explanation: &Explanation<'_>) -> Result<Vec<u8>, AllocError>
+pub fn item_explanation_json(
+    alloc: Global,
+    explanation: &Explanation<'_>,
+) -> Result<Vec<u8>, AllocError>
     ensures { IfOk result (λ text. IsPageText text.items) }
 {
-    item_json_with_optional_trial(alloc, explanation, None)
+    explanation_json_with_optional_trial(alloc, explanation, None)
 }
 
-/// Returns the explanation of the failure of a trial, from 0, as `item_json` gives it, with the number of the trial.
-pub fn trial_json(
+/// Returns the explanation of the failure of a trial, counted from 0, as a JSON object with the number of the trial,
+/// without a line end.
+pub fn trial_explanation_json(
     alloc: Global,
     explanation: &Explanation<'_>,
     trial: usize,
 ) -> Result<Vec<u8>, AllocError>
     ensures { IfOk result (λ text. IsPageText text.items) }
 {
-    item_json_with_optional_trial(alloc, explanation, Some(trial))
+    explanation_json_with_optional_trial(alloc, explanation, Some(trial))
 }

@@ -8,7 +8,7 @@ use pst_model::{Fun, Item, Op, Param, Source, initial_state_of, state_of};
 use std::alloc::{AllocError, Global};
 
 /// Writes the member `params`: the parameters with their types.
-fn write_json_parameters(
+fn write_json_parameters_member(
     writer: &mut Writer<Global>,
     alloc: Global,
     params: &[Param],
@@ -32,7 +32,7 @@ fn write_json_operation(
 ) -> Result<(), AllocError> {
     writer.begin_object()?;
     write_json_text_member(writer, "name", op.name.as_str())?;
-    write_json_parameters(writer, alloc, op.params.as_slice())?;
+    write_json_parameters_member(writer, alloc, op.params.as_slice())?;
     writer.key("result")?;
     write_json_type(writer, alloc, &op.result)?;
     write_json_expression_member(writer, alloc, "pre", &op.pre)?;
@@ -49,7 +49,7 @@ fn write_json_function(
 ) -> Result<(), AllocError> {
     writer.begin_object()?;
     write_json_text_member(writer, "name", fun.name.as_str())?;
-    write_json_parameters(writer, alloc, fun.params.as_slice())?;
+    write_json_parameters_member(writer, alloc, fun.params.as_slice())?;
     writer.key("result")?;
     write_json_type(writer, alloc, &fun.result)?;
     write_json_expression_member(writer, alloc, "body", &fun.body)?;
@@ -57,7 +57,7 @@ fn write_json_function(
 }
 
 /// Writes the member `ops`: the operations.
-fn write_json_operations(
+fn write_json_operations_member(
     writer: &mut Writer<Global>,
     alloc: Global,
     items: &[Item],
@@ -73,7 +73,7 @@ fn write_json_operations(
 }
 
 /// Writes the member `funs`: the functions.
-fn write_json_functions(
+fn write_json_functions_member(
     writer: &mut Writer<Global>,
     alloc: Global,
     items: &[Item],
@@ -106,7 +106,7 @@ fn write_json_state_members(
 }
 
 /// Writes the member `model`.
-pub fn write_json_model(
+pub fn write_json_model_member(
     writer: &mut Writer<Global>,
     alloc: Global,
     model: &Source,
@@ -116,7 +116,7 @@ pub fn write_json_model(
     writer.begin_object()?;
     write_json_text_member(writer, "name", model.name.as_str())?;
     write_json_state_members(writer, alloc, items)?;
-    write_json_operations(writer, alloc, items)?;
-    write_json_functions(writer, alloc, items)?;
+    write_json_operations_member(writer, alloc, items)?;
+    write_json_functions_member(writer, alloc, items)?;
     writer.end_object()
 }

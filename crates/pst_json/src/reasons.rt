@@ -13,7 +13,7 @@ use pst_value::Value;
 use std::alloc::{AllocError, Global};
 
 /// Writes the two values that a comparison compares.
-fn write_json_compared_values(
+fn write_json_compared_values_member(
     writer: &mut Writer<Global>,
     alloc: Global,
     model: &Source,
@@ -28,7 +28,7 @@ fn write_json_compared_values(
 }
 
 /// Writes the members on a part that is false: the part, and what is known of it.
-fn write_json_false_part(
+fn write_json_false_part_members(
     writer: &mut Writer<Global>,
     alloc: Global,
     model: &Source,
@@ -37,7 +37,7 @@ fn write_json_false_part(
     write_json_expression_member(writer, alloc, "part", found.part)?;
     match &found.evidence {
         Evidence::Wants(value) => write_json_value_member(writer, alloc, "wants", model, value),
-        Evidence::Compares(first, second) => write_json_compared_values(
+        Evidence::Compares(first, second) => write_json_compared_values_member(
             writer, alloc, model, first, second,
         ),
         Evidence::Nothing => Ok(()),
@@ -45,7 +45,7 @@ fn write_json_false_part(
 }
 
 /// Writes the members on a postcondition that is not true.
-pub fn write_json_false_postcondition(
+pub fn write_json_false_postcondition_members(
     writer: &mut Writer<Global>,
     alloc: Global,
     model: &Source,
@@ -54,13 +54,13 @@ pub fn write_json_false_postcondition(
     let text = false_postcondition_text(alloc, model, falsity)?;
     write_json_spelling_member(writer, alloc, "text", text.as_slice())?;
     match falsity {
-        Falsity::Part { found, .. } => write_json_false_part(writer, alloc, model, found),
+        Falsity::Part { found, .. } => write_json_false_part_members(writer, alloc, model, found),
         _ => Ok(()),
     }
 }
 
 /// Writes the member `why`: why a call cannot come next.
-pub fn write_json_dead_end(
+pub fn write_json_dead_end_member(
     writer: &mut Writer<Global>,
     alloc: Global,
     model: &Source,
@@ -69,7 +69,7 @@ pub fn write_json_dead_end(
     writer.key("why")?;
     writer.begin_object()?;
     match why {
-        DeadEnd::PostFails(falsity) => write_json_false_postcondition(
+        DeadEnd::PostFails(falsity) => write_json_false_postcondition_members(
             writer, alloc, model, falsity,
         )?,
         _ => {

@@ -24,7 +24,7 @@ fn write_json_integer(writer: &mut Writer<Global>, number: i64) -> Result<(), Al
 }
 
 /// Writes a key of a map.
-fn write_json_map_key(writer: &mut Writer<Global>, key: &Key) -> Result<(), AllocError> {
+fn write_json_tagged_map_key(writer: &mut Writer<Global>, key: &Key) -> Result<(), AllocError> {
     match key {
         Key::Int(number) => write_json_integer(writer, *number),
         Key::Bool(holds) => writer.boolean(*holds),
@@ -33,7 +33,7 @@ fn write_json_map_key(writer: &mut Writer<Global>, key: &Key) -> Result<(), Allo
 }
 
 /// Writes an object with the number of a variable.
-fn write_json_variable(writer: &mut Writer<Global>, number: u32) -> Result<(), AllocError> {
+fn write_json_tagged_variable(writer: &mut Writer<Global>, number: u32) -> Result<(), AllocError> {
     writer.begin_object()?;
     write_json_number_member(writer, "var", number as usize)?;
     writer.end_object()
@@ -64,7 +64,7 @@ fn begin_json_object_with_array(writer: &mut Writer<Global>, key: &str) -> Resul
 
 /// Writes a value as JSON.
 #[cycle(value)]
-fn write_json_value(
+fn write_json_tagged_value(
     writer: &mut Writer<Global>,
     model: &Source,
     value: &Value,
@@ -88,12 +88,12 @@ fn write_json_value(
             write_json_map_entries_and_end(writer, model, keys, values)?;
             writer.end_object()
         }
-        Value::Var(number) => write_json_variable(writer, *number),
+        Value::Var(number) => write_json_tagged_variable(writer, *number),
         Value::Ref(number, value) => {
             writer.begin_object()?;
             write_json_number_member(writer, "ref", *number as usize)?;
             writer.key("value")?;
-            write_json_value(writer, model, value.get())?;
+            write_json_tagged_value(writer, model, value.get())?;
             writer.end_object()
         }
         Value::Call(operation, args) => {
@@ -113,7 +113,7 @@ fn write_json_array_items_and_end(
     items: &[Value],
 ) -> Result<(), AllocError> {
     for item in items {
-        write_json_value(writer, model, item)?;
+        write_json_tagged_value(writer, model, item)?;
     }
     writer.end_array()
 }
@@ -132,8 +132,8 @@ fn write_json_map_entries_and_end(
             return writer.end_array();
         };
         writer.begin_array()?;
-        write_json_map_key(writer, key)?;
-        write_json_value(writer, model, value)?;
+        write_json_tagged_map_key(writer, key)?;
+        write_json_tagged_value(writer, model, value)?;
         writer.end_array()?;
         rest = others;
     }
@@ -155,7 +155,7 @@ pub fn write_json_value_and_text(
         write_json_number_member(writer, "bytes", text.len())?;
     } else {
         writer.key("value")?;
-        write_json_value(writer, model, value)?;
+        write_json_tagged_value(writer, model, value)?;
     }
     writer.end_object()
 }

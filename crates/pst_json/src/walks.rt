@@ -1,7 +1,7 @@
 //! Interleavings.
 
 use crate::calls::write_json_call_member;
-use crate::reasons::write_json_dead_end;
+use crate::reasons::write_json_dead_end_member;
 use crate::values::write_json_state_member;
 use crate::writing::{write_json_byte_string, write_json_text_member};
 use json::Writer;
@@ -52,7 +52,7 @@ fn write_json_blocked_call(
 ) -> Result<(), AllocError> {
     writer.begin_object()?;
     write_json_call_member(writer, alloc, &stopped.call)?;
-    write_json_dead_end(writer, alloc, model, &stopped.why)?;
+    write_json_dead_end_member(writer, alloc, model, &stopped.why)?;
     writer.end_object()
 }
 
@@ -67,7 +67,7 @@ fn json_walk_kind(reason: &JudgementReason<'_>) -> &'static str {
 }
 
 /// Writes the member `next`: the calls that cannot come next.
-fn write_json_blocked_calls(
+fn write_json_blocked_calls_member(
     writer: &mut Writer<Global>,
     alloc: Global,
     model: &Source,
@@ -82,7 +82,7 @@ fn write_json_blocked_calls(
 }
 
 /// Writes the member `steps`: the calls in their order.
-fn write_json_walk_steps(
+fn write_json_walk_steps_member(
     writer: &mut Writer<Global>,
     alloc: Global,
     model: &Source,
@@ -97,7 +97,7 @@ fn write_json_walk_steps(
 }
 
 /// Writes the member `walk` of an explanation.
-pub fn write_json_walk(
+pub fn write_json_walk_member(
     writer: &mut Writer<Global>,
     alloc: Global,
     explanation: &Explanation<'_>,
@@ -111,7 +111,7 @@ pub fn write_json_walk(
     if let Some(start) = &walk.start {
         write_json_state_member(writer, alloc, "start", model, start)?;
     }
-    write_json_walk_steps(writer, alloc, model, walk.steps.as_slice())?;
-    write_json_blocked_calls(writer, alloc, model, walk.stopped.as_slice())?;
+    write_json_walk_steps_member(writer, alloc, model, walk.steps.as_slice())?;
+    write_json_blocked_calls_member(writer, alloc, model, walk.stopped.as_slice())?;
     writer.end_object()
 }

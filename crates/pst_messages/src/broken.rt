@@ -22,8 +22,8 @@ struct BrokenItems {
     count: usize,
 }
 
-/// Adds item `item` if it is broken.
-fn count_item_if_broken(
+/// The broken items with item `item`, if it is broken.
+fn broken_items_with_item_if_broken(
     broken: Option<BrokenItems>,
     item: usize,
     judged: &Judged,
@@ -133,11 +133,11 @@ fn first_broken_item_and_count_message(
 }
 
 /// Says why the first broken item is broken, and how many others are, for a person to read. Returns `None` if no item
-/// is broken.
+/// is broken, or if its reply cannot be said.
 ///
 /// `typed` is the model of the input, and `judged` are the judgements on all items in their order. If an item is
 /// broken, the function reads the trees of the input once more; it returns `None` if that fails.
-pub fn explain_first_broken_run(
+pub fn message_on_first_broken_run(
     alloc: Global,
     typed: &Typed,
     input: ItemInput<'_>,
@@ -145,7 +145,7 @@ pub fn explain_first_broken_run(
 ) -> Result<Option<String>, AllocError> {
     let mut broken = None;
     for (index, judged) in judged.iter().enumerate() {
-        broken = count_item_if_broken(broken, index.saturating_add(1), judged);
+        broken = broken_items_with_item_if_broken(broken, index.saturating_add(1), judged);
     }
     let Some(broken) = broken else {
         return Ok(None);
@@ -163,8 +163,9 @@ pub fn explain_first_broken_run(
 }
 
 /// Says why the first broken item is broken, and how many others are, for a person to read. Returns `None` if no item
-/// is broken. `answers` are the answers to all items in their order, and `trees` are the trees of the input.
-pub fn explain_first_broken_result(
+/// is broken, or if its reply cannot be said. `answers` are the answers to all items in their order, and `trees` are the
+/// trees of the input.
+pub fn message_on_first_broken_item_result(
     alloc: Global,
     typed: &Typed,
     input: ItemInput<'_>,
@@ -174,7 +175,7 @@ pub fn explain_first_broken_result(
     let mut broken = None;
     for (index, answer) in answers.iter().enumerate() {
         if let ItemResult::Judged(judged) = answer {
-            broken = count_item_if_broken(broken, index.saturating_add(1), judged);
+            broken = broken_items_with_item_if_broken(broken, index.saturating_add(1), judged);
         }
     }
     match broken {

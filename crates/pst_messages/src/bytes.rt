@@ -36,14 +36,18 @@ impl ByteFault {
     }
 
     /// The fault with one more note.
-    pub fn with<D: Display + Drop>(self, alloc: Global, note: D) -> Result<ByteFault, AllocError> {
+    pub fn with_note<D: Display + Drop>(
+        self,
+        alloc: Global,
+        note: D,
+    ) -> Result<ByteFault, AllocError> {
         let mut wrong = self;
-        wrong.add(format!(in alloc; "{note}")?)?;
+        wrong.add_note(format!(in alloc; "{note}")?)?;
         Ok(wrong)
     }
 
     /// Adds a note.
-    fn add(&mut self, note: String) -> Result<(), AllocError> {
+    fn add_note(&mut self, note: String) -> Result<(), AllocError> {
         self.notes.push(note)?;
         Ok(())
     }
@@ -59,7 +63,7 @@ fn with_open_item_note(
 ) -> Result<ByteFault, AllocError> {
     let line = input.line_at(alloc, next.start, open.start)?;
     let line = line.as_str();
-    wrong.with(
+    wrong.with_note(
         alloc,
         format_args!("the item on {line} begins while this one is still open"),
     )
@@ -83,7 +87,7 @@ fn missing_close_fault(
         Some(next) => with_open_item_note(alloc, input, open.item, next, wrong)?,
         None => wrong,
     };
-    wrong.with(
+    wrong.with_note(
         alloc,
         format_args!("the innermost `(` that is open at the end is on {line}"),
     )
@@ -114,10 +118,10 @@ fn foreign_char_fault(
     if letter.is_control() {
         let code = letter as u32;
         let what = format_args!("the control character {code} is not allowed here");
-        return ByteFault::new(alloc, span, what)?.with(alloc, ASCII);
+        return ByteFault::new(alloc, span, what)?.with_note(alloc, ASCII);
     }
     let what = format_args!("`{letter}` is not ASCII");
-    ByteFault::new(alloc, span, what)?.with(alloc, ASCII)
+    ByteFault::new(alloc, span, what)?.with_note(alloc, ASCII)
 }
 
 /// The fault of a character that may not be at `place`, or of a byte that belongs to no character.
@@ -130,14 +134,14 @@ fn bad_escape_or_char_fault(
     match char_at(input.bytes, place) {
         Some((letter, _)) if b' ' <= byte && byte <= b'~' => {
             let what = format_args!("`\\{letter}` is not an escape");
-            ByteFault::new(alloc, one_byte_span(place), what)?.with(alloc, ESCAPES)
+            ByteFault::new(alloc, one_byte_span(place), what)?.with_note(alloc, ESCAPES)
         }
         Some((letter, width)) => foreign_char_fault(alloc, input, place, letter, width),
         None => {
             let what = format_args!(
                 "the byte {byte} is neither ASCII nor part of a UTF-8 character"
             );
-            ByteFault::new(alloc, one_byte_span(place), what)?.with(alloc, ASCII)
+            ByteFault::new(alloc, one_byte_span(place), what)?.with_note(alloc, ASCII)
         }
     }
 }
@@ -147,7 +151,7 @@ fn bad_byte_fault(alloc: Global, input: &Input<'_>, place: usize) -> Result<Byte
     let span = one_byte_span(place);
     match input.bytes.get(place) {
         Some(b'\n') | Some(b'\r') | Some(b'\t') => {
-            ByteFault::new(alloc, span, "a text does not end on its line")?.with(
+            ByteFault::new(alloc, span, "a text does not end on its line")?.with_note(
                 alloc,
                 "hint: a `\"` is missing, or the text has a tab or a line end in it",
             )
@@ -165,7 +169,7 @@ fn stray_close_fault(
 ) -> Result<ByteFault, AllocError> {
     let wrong = ByteFault::new(alloc, one_byte_span(place), "this `)` closes nothing")?;
     let Some(item) = closed_item(input.bytes, place) else {
-        return wrong.with(alloc, "hint: nothing is open here");
+        return wrong.with_note(alloc, "hint: nothing is open here");
     };
     let called = item.called;
     let start = input.place_at(alloc, item.span.start, place)?;
@@ -174,12 +178,12 @@ fn stray_close_fault(
     let end = end.as_str();
     let note = format_args!("the {called} that begins at {start} is already closed at {end}");
     wrong
-        .with(alloc, note)?
-        .with(alloc, "hint: there is one too many, here or earlier")
+        .with_note(alloc, note)?
+        .with_note(alloc, "hint: there is one too many, here or earlier")
 }
 
 /// What is wrong with bytes that are no file of trees.
-pub fn fault_of_refused_bytes(
+pub fn byte_fault_of_sexpr_fault(
     alloc: Global,
     input: &Input<'_>,
     refused: SexprFault,

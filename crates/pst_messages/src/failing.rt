@@ -21,7 +21,7 @@ pub struct FalsePreconditionCommand {
 }
 
 /// For each operation of a model, in their order, whether its precondition is another expression than `true`.
-pub fn mark_operations_with_preconditions(
+pub fn marks_of_operations_with_preconditions(
     alloc: Global,
     items: &[Item],
 ) -> Result<Vec<bool>, AllocError> {
@@ -35,20 +35,20 @@ pub fn mark_operations_with_preconditions(
 }
 
 /// Whether one of the commands calls a marked operation.
-fn any_calls_marked_operation(marks: &[bool], commands: &[Command]) -> bool {
+fn has_call_of_marked_operation(marks: &[bool], commands: &[Command]) -> bool {
     commands
         .iter()
         .any(|command| marks.get(command.op as usize) == Some(&true))
 }
 
 /// Whether a command of a case calls a marked operation.
-pub fn case_calls_marked_operation(marks: &[bool], case: &Case) -> bool {
-    any_calls_marked_operation(marks, case.prefix.as_slice())
-        || case.branches.as_slice().iter().any(|branch| any_calls_marked_operation(
+pub fn has_case_call_of_marked_operation(marks: &[bool], case: &Case) -> bool {
+    has_call_of_marked_operation(marks, case.prefix.as_slice())
+        || case.branches.as_slice().iter().any(|branch| has_call_of_marked_operation(
             marks,
             branch.as_slice(),
         ))
-        || any_calls_marked_operation(marks, case.suffix.as_slice())
+        || has_call_of_marked_operation(marks, case.suffix.as_slice())
 }
 
 /// Whether all results are known.
@@ -73,9 +73,9 @@ fn count_commands_in_earlier_branches(case: &Case, branch: usize) -> usize {
 
 /// The number, from 1, of the command at `place`, from 0, in the interleaving `word`.
 fn command_number_at_interleaving_place(case: &Case, word: &[usize], place: usize) -> usize {
-    let behind = case.prefix.len();
-    let letter = place.saturating_sub(behind);
-    if place < behind {
+    let prefix_length = case.prefix.len();
+    let letter = place.saturating_sub(prefix_length);
+    if place < prefix_length {
         return place.saturating_add(1);
     }
     let Some(branch) = word.get(letter) else {
@@ -86,7 +86,7 @@ fn command_number_at_interleaving_place(case: &Case, word: &[usize], place: usiz
         .take(letter)
         .filter(|other| **other == *branch)
         .count();
-    behind
+    prefix_length
         .saturating_add(count_commands_in_earlier_branches(case, *branch))
         .saturating_add(earlier)
         .saturating_add(1)

@@ -133,7 +133,7 @@ pub fn faulty_scripts_warning(
 ///
 /// `input` begins with the model, `seed` and `commands` are those of the campaign's plan, and `number` is the number of
 /// the trial.
-pub fn explain_generation_fault(
+pub fn explanation_why_trial_has_no_case(
     alloc: Global,
     input: &[u8],
     seed: u64,

@@ -43,7 +43,7 @@ fn is_word_beginning_with_brace(tree: &Tree) -> bool {
 }
 
 /// Whether `place` is the beginning of a line.
-fn begins_line(bytes: &[u8], place: usize) -> bool {
+fn is_line_start(bytes: &[u8], place: usize) -> bool {
     match place.checked_sub(1) {
         Some(before) => bytes.get(before) == Some(&b'\n'),
         None => true,
@@ -57,7 +57,7 @@ fn with_hint_if_json_not_at_line_start(
     tree: &Tree,
     notice: Notice,
 ) -> Result<Notice, AllocError> {
-    if !is_word_beginning_with_brace(tree) || begins_line(input.bytes, notice.span.start) {
+    if !is_word_beginning_with_brace(tree) || is_line_start(input.bytes, notice.span.start) {
         return Ok(notice);
     }
     let mut notes = Vec::new(alloc);

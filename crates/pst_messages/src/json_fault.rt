@@ -2,7 +2,7 @@
 
 use crate::bytes::ByteFault;
 use crate::json_places::{
-    JsonPartCursor, find_deeper_bracket, first_byte_of_json_value_or_zero, is_json_array,
+    JsonPartCursor, find_bracket_deeper_than, first_byte_of_json_value_or_zero, is_json_array_at,
     json_value_span,
 };
 use json::{Error, MAX_DEPTH, Reader, Scratch, Value as Json};
@@ -31,7 +31,7 @@ pub fn shortened_json_value(line: &[u8], value: Span) -> &str {
 
 /// The fault `what` at `span`, with the note `note`.
 fn json_fault_with_note(alloc: Global, span: Span, what: &str, note: &str) -> FoundFault {
-    Ok(Some(ByteFault::new(alloc, span, what)?.with(alloc, note)?))
+    Ok(Some(ByteFault::new(alloc, span, what)?.with_note(alloc, note)?))
 }
 
 /// The fault of the value at `span`, which is not `what`.
@@ -47,12 +47,12 @@ fn wrong_json_value_fault(
     if note.is_empty() {
         return Ok(Some(fault));
     }
-    Ok(Some(fault.with(alloc, note)?))
+    Ok(Some(fault.with_note(alloc, note)?))
 }
 
 /// Whether a value is an array that begins with a string, as calls do.
 fn is_json_array_beginning_with_string(line: &[u8], value: Span) -> bool {
-    is_json_array(line, value)
+    is_json_array_at(line, value)
         && first_byte_of_json_value_or_zero(
             line,
             json_value_span(line, value.start.saturating_add(1)),
@@ -69,7 +69,7 @@ fn fault_of_first_json_non_call(alloc: Global, line: &[u8], calls: Span, note: &
         if !is_json_array_beginning_with_string(line, call) {
             let found = shortened_json_value(line, call);
             let what = format_args!("`{found}` is not a call");
-            return Ok(Some(ByteFault::new(alloc, call, what)?.with(alloc, note)?));
+            return Ok(Some(ByteFault::new(alloc, call, what)?.with_note(alloc, note)?));
         }
     }
     Ok(None)
@@ -77,7 +77,7 @@ fn fault_of_first_json_non_call(alloc: Global, line: &[u8], calls: Span, note: &
 
 /// The fault of the prefix or the suffix, if it has one.
 fn json_prefix_or_suffix_fault(alloc: Global, line: &[u8], part: Span) -> FoundFault {
-    if !is_json_array(line, part) {
+    if !is_json_array_at(line, part) {
         return wrong_json_value_fault(alloc, line, part, "expected an array of calls", CALL);
     }
     fault_of_first_json_non_call(alloc, line, part, CALL)
@@ -85,7 +85,7 @@ fn json_prefix_or_suffix_fault(alloc: Global, line: &[u8], part: Span) -> FoundF
 
 /// The fault of a branch, if it has one.
 fn json_branch_fault(alloc: Global, line: &[u8], branch: Span) -> FoundFault {
-    if !is_json_array(line, branch) {
+    if !is_json_array_at(line, branch) {
         return wrong_json_value_fault(alloc, line, branch, "a branch is an array of calls", CALL);
     }
     let note = if is_json_array_beginning_with_string(line, branch) {
@@ -98,7 +98,7 @@ fn json_branch_fault(alloc: Global, line: &[u8], branch: Span) -> FoundFault {
 
 /// The fault of the branches, if they have one.
 fn json_branches_fault(alloc: Global, line: &[u8], branches: Span) -> FoundFault {
-    if !is_json_array(line, branches) {
+    if !is_json_array_at(line, branches) {
         return wrong_json_value_fault(
             alloc,
             line,
@@ -123,13 +123,13 @@ fn json_branches_fault(alloc: Global, line: &[u8], branches: Span) -> FoundFault
 /// The fault of the replies, if they are no array of arrays.
 fn json_replies_fault(alloc: Global, line: &[u8], replies: Span) -> FoundFault {
     let what = "the replies are arrays in an array, one for each part";
-    if !is_json_array(line, replies) {
+    if !is_json_array_at(line, replies) {
         return wrong_json_value_fault(alloc, line, replies, what, "");
     }
     let mut parts = JsonPartCursor::of(replies);
     for _ in replies.start..replies.end {
         match parts.next(line) {
-            Some(list) if !is_json_array(line, list) => {
+            Some(list) if !is_json_array_at(line, list) => {
                 return wrong_json_value_fault(alloc, line, list, what, "");
             }
             Some(_) => {}
@@ -149,7 +149,7 @@ fn unknown_json_member_fault(alloc: Global, name: &str, key: Span) -> FoundFault
         .or(alloc, "suffix", name)?
         .or(alloc, "replies", name)?;
     match near.hint() {
-        Some(hint) => Ok(Some(fault.with(alloc, hint)?)),
+        Some(hint) => Ok(Some(fault.with_note(alloc, hint)?)),
         None => Ok(Some(fault)),
     }
 }
@@ -171,7 +171,7 @@ fn is_among_first_json_members(members: &[(&str, Json<'_>)], count: usize, name:
 
 /// The fault of the member `number`, whose key is at `key`: it is unknown, has a fault in its value, or has the name of
 /// an earlier member.
-fn fault_of_json_member_at(
+fn json_member_or_duplicate_fault(
     alloc: Global,
     line: &[u8],
     members: &[(&str, Json<'_>)],
@@ -201,7 +201,7 @@ fn fault_of_first_bad_json_member(
         let (Some(key), Some(value)) = (parts.next(line), parts.next(line)) else {
             return Ok(None);
         };
-        let found = fault_of_json_member_at(alloc, line, members, number, key, value)?;
+        let found = json_member_or_duplicate_fault(alloc, line, members, number, key, value)?;
         if found.is_some() {
             return Ok(found);
         }
@@ -223,7 +223,7 @@ fn json_members_fault(alloc: Global, line: &[u8], members: &[(&str, Json<'_>)]) 
     )
 }
 
-/// The place in `text` from which on it is no JSON.
+/// The place of the first syntax error in `text`.
 fn find_json_syntax_error_offset(alloc: Global, text: &str) -> Result<usize, AllocError> {
     let mut scratch = Scratch::new(alloc);
     let mut reader = Reader::new(text, &mut scratch)?;
@@ -247,7 +247,7 @@ fn place_of_text_after_json_value(alloc: Global, text: &str) -> Result<Option<us
     }
 }
 
-/// A hint on the bytes at `place`, from which on a line is no JSON.
+/// A hint on the syntax error at `place`.
 fn hint_on_bad_json(text: &str, place: usize) -> &'static str {
     let before = text.get(..place).unwrap_or("").trim_end();
     let rest = text.get(place..).unwrap_or("");
@@ -262,7 +262,7 @@ fn hint_on_bad_json(text: &str, place: usize) -> &'static str {
 }
 
 /// The fault of the bracket at `place`, which opens more levels than a reader of JSON takes.
-fn too_deep_fault(alloc: Global, place: usize) -> FoundFault {
+fn json_too_deep_fault(alloc: Global, place: usize) -> FoundFault {
     let span = Span {
         start: place,
         end: place.saturating_add(1),
@@ -272,7 +272,7 @@ fn too_deep_fault(alloc: Global, place: usize) -> FoundFault {
 }
 
 /// The fault of a line that is no JSON.
-fn not_json_fault(alloc: Global, text: &str) -> FoundFault {
+fn json_syntax_fault(alloc: Global, text: &str) -> FoundFault {
     if let Some(place) = place_of_text_after_json_value(alloc, text)? {
         let span = Span {
             start: place,
@@ -282,9 +282,9 @@ fn not_json_fault(alloc: Global, text: &str) -> FoundFault {
         return json_fault_with_note(alloc, span, what, JSON_ITEM);
     }
     let place = find_json_syntax_error_offset(alloc, text)?.min(text.len());
-    if let Some(bracket) = find_deeper_bracket(text.as_bytes(), MAX_DEPTH) {
+    if let Some(bracket) = find_bracket_deeper_than(text.as_bytes(), MAX_DEPTH) {
         if bracket < place {
-            return too_deep_fault(alloc, bracket);
+            return json_too_deep_fault(alloc, bracket);
         }
     }
     let column = place.saturating_add(1);
@@ -298,7 +298,7 @@ fn not_json_fault(alloc: Global, text: &str) -> FoundFault {
     }
     let what = format_args!("no JSON at column {column}");
     let hint = hint_on_bad_json(text, place);
-    Ok(Some(ByteFault::new(alloc, span, what)?.with(alloc, hint)?))
+    Ok(Some(ByteFault::new(alloc, span, what)?.with_note(alloc, hint)?))
 }
 
 /// The fault of the form of the JSON item on a line, if it has one. `None` also for JSON that is no object.
@@ -312,6 +312,6 @@ pub fn json_item_form_fault(alloc: Global, line: &[u8]) -> FoundFault {
         Ok(Json::Object(members)) => json_members_fault(alloc, line, members.as_slice()),
         Ok(_) => Ok(None),
         Err(Error::OutOfMemory) => Err(AllocError),
-        Err(_) => not_json_fault(alloc, text),
+        Err(_) => json_syntax_fault(alloc, text),
     }
 }

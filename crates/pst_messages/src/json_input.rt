@@ -32,7 +32,7 @@ pub fn find_first_json_item(text: &[u8]) -> Option<usize> {
     None
 }
 
-/// The beginnings of one line in a text with JSON items, and in the text with trees in place of them.
+/// Where a line begins, in the text with JSON items and in the one with trees in their place.
 #[derive(Clone, Copy, Drop)]
 struct LinePair {
     json: usize,
@@ -143,12 +143,12 @@ pub fn files_with_json_as_trees<'a>(
     Ok(all)
 }
 
-/// The errors of an input whose model is read.
-fn errors_after_model_with_json(
+/// The errors of an input with JSON items whose model is accepted.
+fn errors_of_json_items_and_model(
     alloc: Global,
     input: &Input<'_>,
     typed: &Typed,
-    asked: MessageScope,
+    scope: MessageScope,
 ) -> Result<Notices, AllocError> {
     let files = files_with_json_as_trees(alloc, typed.source(), input.files)?;
     let text = replace_json_lines_by_trees(alloc, typed.source(), input.bytes)?;
@@ -156,7 +156,7 @@ fn errors_after_model_with_json(
         files: files.as_slice(),
         bytes: text.as_slice(),
     };
-    let Notices { all, more } = errors_of_input_without_json_items(alloc, &trees, asked)?;
+    let Notices { all, more } = errors_of_input_without_json_items(alloc, &trees, scope)?;
     let mut notices = Notices {
         all: Vec::new(alloc),
         more,
@@ -174,18 +174,18 @@ fn errors_after_model_with_json(
 pub fn errors_of_input_with_json_items(
     alloc: Global,
     input: &Input<'_>,
-    asked: MessageScope,
+    scope: MessageScope,
     place: usize,
 ) -> Result<Notices, AllocError> {
     if input.bytes.len() > MAX_BYTES {
-        return errors_of_input_without_json_items(alloc, input, asked);
+        return errors_of_input_without_json_items(alloc, input, scope);
     }
     let head = input.bytes.get(..place).unwrap_or(&[]);
     match load(alloc, head)? {
-        Ok(file) => errors_after_model_with_json(alloc, input, &file.typed, asked),
+        Ok(file) => errors_of_json_items_and_model(alloc, input, &file.typed, scope),
         Err(_) => {
             let files = input.files;
-            errors_of_input_without_json_items(alloc, &Input { files, bytes: head }, asked)
+            errors_of_input_without_json_items(alloc, &Input { files, bytes: head }, scope)
         }
     }
 }

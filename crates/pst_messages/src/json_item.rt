@@ -126,7 +126,7 @@ fn hint_on_foreign_json_value(line: &[u8], value: Span, before: &str) -> Option<
 }
 
 /// Whether a value may be one that no model has, by its first byte.
-fn may_be_foreign_json_value(line: &[u8], value: Span) -> bool {
+fn can_be_foreign_json_value(line: &[u8], value: Span) -> bool {
     let first = first_byte_of_json_value_or_zero(line, value);
     first == b'"' || first == b'-' || first == b'n' || first.is_ascii_digit()
 }
@@ -146,7 +146,7 @@ fn foreign_json_value_or_whole(
         }
         let part = json_value_span(line, at);
         let is_begun = at >= end_of_part && at == part.start && part.start < part.end;
-        if is_begun && may_be_foreign_json_value(line, part) {
+        if is_begun && can_be_foreign_json_value(line, part) {
             found = (part, hint_on_foreign_json_value(line, part, before));
             end_of_part = part.end;
         }
@@ -181,7 +181,7 @@ fn with_notes_in_json_terms(
     let mut fault = fault;
     for note in notes {
         if let Some(note) = note_in_json_terms(note.as_str()) {
-            fault = fault.with(alloc, note)?;
+            fault = fault.with_note(alloc, note)?;
         }
     }
     Ok(fault)
@@ -210,7 +210,7 @@ fn fault_showing_json_value(
     let found = shortened_json_value(line, value);
     let fault = ByteFault::new(alloc, span, format_args!("{before}`{found}`{after}"))?;
     match hint {
-        Some(hint) => fault.with(alloc, hint),
+        Some(hint) => fault.with_note(alloc, hint),
         None => Ok(fault),
     }
 }
@@ -240,9 +240,11 @@ fn json_fault_from_tree_problem(
 ) -> Result<ByteFault, AllocError> {
     let what = problem.what.as_str();
     if is_problem_of_reply_lists(problem) {
-        let fault = ByteFault::new(alloc, json_member_span_or_whole(line, "replies"), what)?.with(
-            alloc, REPLIES,
-        )?;
+        let fault = ByteFault::new(
+            alloc,
+            json_member_span_or_whole(line, "replies"),
+            what,
+        )?.with_note(alloc, REPLIES)?;
         return with_notes_in_json_terms(alloc, fault, problem.notes.as_slice());
     }
     let path = problem.path.as_slice().get(1..).unwrap_or(&[]);

@@ -1,6 +1,6 @@
 //! Places in a line of JSON.
 //!
-//! The line is JSON. Of another line, some places come back, each of them in the line or at its end.
+//! The line must be JSON. For another line the functions return some place in it, or its end.
 
 use pst_sources::Span;
 
@@ -86,7 +86,7 @@ impl JsonScanState {
 }
 
 /// The place of the first bracket of a line that opens more than `most` levels.
-pub fn find_deeper_bracket(line: &[u8], most: usize) -> Option<usize> {
+pub fn find_bracket_deeper_than(line: &[u8], most: usize) -> Option<usize> {
     let mut scan = JsonScanState::new();
     for (place, byte) in line.iter().enumerate() {
         scan = scan.after_json_byte(*byte);
@@ -132,7 +132,7 @@ pub fn first_byte_of_json_value_or_zero(line: &[u8], value: Span) -> u8 {
 }
 
 /// Whether a value is an array.
-pub fn is_json_array(line: &[u8], value: Span) -> bool {
+pub fn is_json_array_at(line: &[u8], value: Span) -> bool {
     first_byte_of_json_value_or_zero(line, value) == b'['
 }
 
@@ -167,7 +167,7 @@ impl JsonPartCursor {
 
 /// Part `number`, from 0, of an array, or else the value itself.
 pub fn array_element_span_or_whole(line: &[u8], value: Span, number: usize) -> Span {
-    if !is_json_array(line, value) {
+    if !is_json_array_at(line, value) {
         return value;
     }
     let mut parts = JsonPartCursor::of(value);

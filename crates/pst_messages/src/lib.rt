@@ -27,10 +27,12 @@ mod scripts;
 mod spelling;
 mod warning;
 
-pub use broken::{explain_first_broken_result, explain_first_broken_run};
-pub use faults::explain_generation_fault;
+pub use broken::{message_on_first_broken_item_result, message_on_first_broken_run};
+pub use faults::explanation_why_trial_has_no_case;
 pub use item_input::ItemInput;
 pub use json_input::{files_with_json_as_trees, find_first_json_item};
-pub use message::{MessageScope, input_error_messages_text, input_error_notices};
+pub use message::{
+    MessageScope, has_model_at_start, input_error_messages_text, input_error_notices,
+};
 pub use preconditions::{precondition_warnings_on_item_results, precondition_warnings_on_runs};
 pub use warning::{input_warning_notices, input_warnings_text};

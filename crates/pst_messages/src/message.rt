@@ -1,6 +1,6 @@
 //! The messages on refused inputs.
 
-use crate::bytes::{ByteFault, fault_of_refused_bytes};
+use crate::bytes::{ByteFault, byte_fault_of_sexpr_fault};
 use crate::item_hints::{is_model_tree, with_misplaced_item_hint};
 use crate::json_input::{errors_of_input_with_json_items, find_first_json_item};
 use pst_model::Typed;
@@ -76,17 +76,17 @@ fn model_problem_notices(
 }
 
 /// Whether a text begins with a model.
-fn begins_with_model(bytes: &[u8]) -> bool {
+pub fn has_model_at_start(bytes: &[u8]) -> bool {
     matches!(first_item(bytes), Some("model" | "model2"))
 }
 
 /// The name of the first file that begins with a model, if the input does not.
 fn name_of_misplaced_model_file<'a>(input: &Input<'a>) -> Option<&'a str> {
-    if begins_with_model(input.bytes) {
+    if has_model_at_start(input.bytes) {
         return None;
     }
     for file in input.files {
-        if begins_with_model(file.bytes.as_slice()) {
+        if has_model_at_start(file.bytes.as_slice()) {
             return Some(file.name);
         }
     }
@@ -112,7 +112,7 @@ fn problems_with_hint(
 }
 
 /// Whether a text begins with a case or a run.
-fn begins_with_item(bytes: &[u8]) -> bool {
+fn has_item_at_start(bytes: &[u8]) -> bool {
     match first_item(bytes) {
         Some(head) => head == "case" || head == "run",
         None => false,
@@ -124,7 +124,7 @@ fn hint_on_missing_model_file(input: &Input<'_>, trees: &[Tree]) -> Option<&'sta
     if trees.is_empty() && input.files.len() > 1 {
         return Some("hint: the model's file comes first");
     }
-    if begins_with_item(input.bytes) && !has_model_tree(trees) {
+    if has_item_at_start(input.bytes) && !has_model_tree(trees) {
         return Some("hint: name the model's file first");
     }
     None
@@ -148,7 +148,7 @@ fn form_problems_with_hints(
     }
 }
 
-/// The problems of an ill-typed model, with hints on what is written as in another language.
+/// The problems of an ill-typed model, with hints on calls and assignments in the style of other languages.
 fn with_type_hints(
     alloc: Global,
     model: &Form,
@@ -298,10 +298,10 @@ fn item_error_notices(
     alloc: Global,
     input: &Input<'_>,
     file: &ModelFile,
-    asked: MessageScope,
+    scope: MessageScope,
 ) -> Result<Notices, AllocError> {
     let trees = file.trees.as_slice();
-    match asked {
+    match scope {
         MessageScope::Model => Ok(Notices::none(alloc)),
         MessageScope::FirstItem => notice_on_first_refused_item(alloc, input, &file.typed, trees),
         MessageScope::EachItem => notices_on_refused_items(
@@ -325,12 +325,12 @@ fn item_error_notices(
 pub fn errors_of_input_without_json_items(
     alloc: Global,
     input: &Input<'_>,
-    asked: MessageScope,
+    scope: MessageScope,
 ) -> Result<Notices, AllocError> {
     match load(alloc, input.bytes)? {
-        Ok(file) => item_error_notices(alloc, input, &file, asked),
+        Ok(file) => item_error_notices(alloc, input, &file, scope),
         Err(Refusal::Unread(refused)) => {
-            let ByteFault { span, what, notes } = fault_of_refused_bytes(alloc, input, refused)?;
+            let ByteFault { span, what, notes } = byte_fault_of_sexpr_fault(alloc, input, refused)?;
             let lines = String::new(alloc);
             let notice = Notice {
                 span,
@@ -349,31 +349,31 @@ pub fn errors_of_input_without_json_items(
 }
 
 /// The errors of an input: for each the bytes that are wrong, what was expected and found, and hints. There are none if
-/// no part that `asked` selects is refused. Lines that begin with `{` are items as JSON.
+/// no part that `scope` selects is refused. Lines that begin with `{` are items as JSON.
 pub fn input_error_notices(
     alloc: Global,
     input: &Input<'_>,
-    asked: MessageScope,
+    scope: MessageScope,
 ) -> Result<Notices, AllocError> {
     match find_first_json_item(input.bytes) {
-        Some(place) => errors_of_input_with_json_items(alloc, input, asked, place),
-        None => errors_of_input_without_json_items(alloc, input, asked),
+        Some(place) => errors_of_input_with_json_items(alloc, input, scope, place),
+        None => errors_of_input_without_json_items(alloc, input, scope),
     }
 }
 
 /// The messages on the refused parts of an input, for a person to read. Each has the name of the file, the line and the
 /// column of what is wrong, that line with the place underlined, what was expected and found, and hints. `input` is the
-/// text of `files`. Returns `None` if no part that `asked` selects is refused.
+/// text of `files`. Returns `None` if no part that `scope` selects is refused.
 pub fn input_error_messages_text(
     alloc: Global,
     files: &[SourceFile<'_>],
     input: &[u8],
-    asked: MessageScope,
+    scope: MessageScope,
 ) -> Result<Option<String>, AllocError> {
     let input = Input {
         files,
         bytes: input,
     };
-    let errors = input_error_notices(alloc, &input, asked)?;
+    let errors = input_error_notices(alloc, &input, scope)?;
     text_of(alloc, &input, &errors)
 }

@@ -64,7 +64,7 @@ fn prepend_to_path(alloc: Global, first: usize, rest: &[usize]) -> Result<Vec<us
 }
 
 /// The spot of command `command`, counted from 1, of item `item`. `None` if the item has no such command.
-pub fn find_spot_of_command(
+pub fn locate_command(
     alloc: Global,
     form: &Form,
     item: usize,

@@ -3,11 +3,11 @@ ghost use Rattle.std.specs.Prelude.{◌≡◌, All};
 ghost use Rattle.pst_runs.specs.Lawful.{AreLawful, IsLawful};
 
 use crate::failing::{
-    FalsePreconditionCommand, case_calls_marked_operation, first_command_with_false_precondition,
-    mark_operations_with_preconditions,
+    FalsePreconditionCommand, first_command_with_false_precondition,
+    has_case_call_of_marked_operation, marks_of_operations_with_preconditions,
 };
 use crate::item_input::ItemInput;
-use crate::places::{LocatedCommand, find_spot_of_command};
+use crate::places::{LocatedCommand, locate_command};
 use crate::spelling::shortened_value_text;
 use crate::warning::warning_notice;
 use pst_case::Run;
@@ -50,8 +50,8 @@ fn precondition_warning(
     let Some(tree) = trees.get(item) else {
         return Ok(String::new(alloc));
     };
-    match find_spot_of_command(alloc, tree.form(), item, failing.command)? {
-        Some(spot) => precondition_warning_at_spot(
+    match locate_command(alloc, tree.form(), item, failing.command)? {
+        Some(spot) => precondition_warning_on_located_command(
             alloc,
             subject,
             tree.form(),
@@ -64,7 +64,7 @@ fn precondition_warning(
 }
 
 /// The warning on the command at `spot` of item `item`, which is `tree`, with the state before the command.
-fn precondition_warning_at_spot(
+fn precondition_warning_on_located_command(
     alloc: Global,
     subject: &WarningSubject<'_>,
     tree: &Form,
@@ -103,7 +103,7 @@ fn add_run_if_precondition_is_false<C: Callbacks>(
 ) -> Result<(), AllocError>
     requires { IsLawful (C.model callbacks.now) run.now }
 {
-    if !case_calls_marked_operation(subject.conditional.as_slice(), run.shaped.case()) {
+    if !has_case_call_of_marked_operation(subject.conditional.as_slice(), run.shaped.case()) {
         return Ok(());
     }
     let Some(failing) = first_command_with_false_precondition(callbacks, alloc, run, word)? else {
@@ -117,7 +117,7 @@ fn add_run_if_precondition_is_false<C: Callbacks>(
 }
 
 /// The interleaving that explains a recorded run, if one does.
-fn explaining_interleaving(judged: &Judged) -> Option<&[usize]> {
+fn interleaving_of_explained_verdict(judged: &Judged) -> Option<&[usize]> {
     match judged {
         Judged::Verdict(Verdict::Explained(word)) => Some(word.as_slice()),
         _ => None,
@@ -168,7 +168,7 @@ fn add_runs_with_false_preconditions<C: Callbacks>(
         let Some((judged, others)) = left.split_first() else {
             return Ok(());
         };
-        if let Some(word) = explaining_interleaving(judged) {
+        if let Some(word) = interleaving_of_explained_verdict(judged) {
             add_run_if_precondition_is_false(found, callbacks, alloc, subject, item, run, word)?;
         }
         item = item.saturating_add(1);
@@ -207,7 +207,8 @@ fn add_false_preconditions_of_parts<C: Callbacks>(
     Ok(())
 }
 
-/// Adds item `item`, counted from 1, of the input if it was judged and gets a warning.
+/// Adds item `item`, counted from 1, of the input if it was judged and gets a warning. `typed` is a parameter of its
+/// own, the seventh, because the contract speaks of it.
 fn add_result_if_precondition_is_false<C: Callbacks>(
     found: &mut FalsePreconditions,
     callbacks: &C,
@@ -226,7 +227,7 @@ fn add_result_if_precondition_is_false<C: Callbacks>(
     let Some(tree) = trees.get(item) else {
         return Ok(());
     };
-    if explaining_interleaving(judged).is_none() {
+    if interleaving_of_explained_verdict(judged).is_none() {
         return Ok(());
     }
     match read_runs(alloc, typed, slice::from_ref(tree)) {
@@ -250,7 +251,7 @@ fn subject_of_precondition_warnings<'a>(
     input: ItemInput<'a>,
 ) -> Result<Option<WarningSubject<'a>>, AllocError> {
     let source = typed.source();
-    let conditional = mark_operations_with_preconditions(alloc, source.items.as_slice())?;
+    let conditional = marks_of_operations_with_preconditions(alloc, source.items.as_slice())?;
     if !conditional.iter().any(|is_marked| *is_marked) {
         return Ok(None);
     }

@@ -113,7 +113,7 @@ pub fn faulty_script_of_trial(
 }
 
 /// A mark for each operation of a model, in their order, none of them set.
-fn unset_operation_marks(alloc: Global, typed: &Typed) -> Result<Vec<bool>, AllocError> {
+fn all_operations_unmarked(alloc: Global, typed: &Typed) -> Result<Vec<bool>, AllocError> {
     let mut marks = Vec::new(alloc);
     for item in typed.source().items.as_slice() {
         if let Item::Op(_) = item {
@@ -133,8 +133,8 @@ fn mark_called_operations(marks: &mut Vec<bool>, commands: &[Command]) {
 }
 
 impl ScriptSummary {
-    /// Adds a script.
-    fn count_script(&mut self, script: GeneratedScript) {
+    /// Adds a script. A cut one is not counted.
+    fn add_script(&mut self, script: GeneratedScript) {
         match script {
             GeneratedScript::Whole(valid) => {
                 let case = valid.shaped().case();
@@ -161,7 +161,7 @@ pub fn summary_of_generated_scripts(
     compiled: &Compiled,
 ) -> Result<ScriptSummary, AllocError> {
     let mut scripts = ScriptSummary {
-        called: unset_operation_marks(alloc, compiled.typed())?,
+        called: all_operations_unmarked(alloc, compiled.typed())?,
         count: 0,
         faulty: 0,
         first_faulty: None,
@@ -170,7 +170,7 @@ pub fn summary_of_generated_scripts(
     let mut steps = STEPS;
     for number in 0..SCRIPTS {
         let script = generate_script(alloc, compiled, 0, u64::from(number), COMMANDS, &mut steps)?;
-        scripts.count_script(script);
+        scripts.add_script(script);
         if scripts.is_cut {
             break;
         }

@@ -29,7 +29,7 @@ fn write_map_key<W: fmt::Write>(f: &mut fmt::Formatter<W>, key: &Key) -> fmt::Re
     }
 }
 
-/// The name of operation `number`, counted from 0.
+/// The name of operation `number`, counted from 0, or an empty text if there is none.
 fn operation_name_or_empty(model: &Source, number: u32) -> &str {
     match operation_of(model.items.as_slice(), number as usize) {
         Some(operation) => operation.name.as_str(),

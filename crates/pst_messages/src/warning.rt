@@ -1,10 +1,11 @@
 //! The warnings on an input.
 
 use crate::faults::faulty_scripts_warning;
+use crate::item_hints::is_model_tree;
 use crate::scripts::{COMMANDS, SCRIPTS, summary_of_generated_scripts};
 use pst_compile::{Compiled, compile};
 use pst_model::Item;
-use pst_sexpr::{Form, Tree, node_of, word_of};
+use pst_sexpr::Tree;
 use pst_sources::{Input, Notice, Notices, SourceFile, span_of, text_of};
 use pst_typing::{ModelFile, load, trees_after_model};
 use std::alloc::{AllocError, Global};
@@ -116,17 +117,6 @@ fn script_warnings(
     Ok(warnings)
 }
 
-/// Whether a tree has the head of a model.
-fn has_model_head(form: &Form) -> bool {
-    match node_of(form).unwrap_or(&[]).first() {
-        Some(head) => match word_of(head) {
-            Some(word) => word.as_str() == "model" || word.as_str() == "model2",
-            None => false,
-        },
-        None => false,
-    }
-}
-
 /// Adds the warnings on further models after the first.
 fn add_further_model_warnings(
     alloc: Global,
@@ -135,7 +125,7 @@ fn add_further_model_warnings(
     warnings: &mut Vec<Notice>,
 ) -> Result<(), AllocError> {
     for (index, tree) in trees_after_model(trees).iter().enumerate() {
-        if has_model_head(tree.form()) {
+        if is_model_tree(tree) {
             let path = [index.saturating_add(1)];
             let warning = warning_notice(
                 alloc,

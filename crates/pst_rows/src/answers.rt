@@ -4,7 +4,7 @@ use crate::cores::core_answer;
 use crate::generated::generate_answer;
 use crate::items::{alone_answer, judge_answer, runs_answer, valid_answer, write_answer};
 use crate::models::{
-    check_answer, form_answer, list_answer, opening_answer, print_answer, trees_answer,
+    check_answer, form_answer, initial_state_answer, list_answer, print_answer, trees_answer,
 };
 use crate::questions::Question;
 use std::alloc::{AllocError, Global};
@@ -19,13 +19,13 @@ pub struct QuestionText<'a> {
 }
 
 /// The whole text of a question, with a space between what comes before the text and the text.
-fn whole_of(alloc: Global, asked: &QuestionText<'_>) -> Result<String, AllocError> {
-    let mut whole = String::from_str(alloc, asked.before)?;
-    if !asked.before.is_empty() {
+fn whole_of(alloc: Global, question_text: &QuestionText<'_>) -> Result<String, AllocError> {
+    let mut whole = String::from_str(alloc, question_text.before)?;
+    if !question_text.before.is_empty() {
         whole.push_str(" ")?;
     }
-    whole.push_str(asked.text)?;
-    whole.push_str(asked.after)?;
+    whole.push_str(question_text.text)?;
+    whole.push_str(question_text.after)?;
     Ok(whole)
 }
 
@@ -42,7 +42,7 @@ fn answer_whole<R: Threads + Sync>(
         Question::Check => check_answer(alloc, text),
         Question::Print => print_answer(alloc, text),
         Question::List => list_answer(alloc, text),
-        Question::Opening => opening_answer(alloc, text),
+        Question::InitialState => initial_state_answer(alloc, text),
         Question::Runs => runs_answer(alloc, text),
         Question::Alone => alone_answer(alloc, text),
         Question::Valid => valid_answer(alloc, text),
@@ -57,13 +57,13 @@ pub fn answer_to<R: Threads + Sync>(
     rt: &R,
     alloc: Global,
     question: Question,
-    asked: &QuestionText<'_>,
+    question_text: &QuestionText<'_>,
 ) -> Result<String, AllocError> {
     match question {
-        Question::Write => write_answer(alloc, asked.before, asked.text),
-        Question::Generate => generate_answer(alloc, asked.before, asked.text),
+        Question::Write => write_answer(alloc, question_text.before, question_text.text),
+        Question::Generate => generate_answer(alloc, question_text.before, question_text.text),
         _ => {
-            let whole = whole_of(alloc, asked)?;
+            let whole = whole_of(alloc, question_text)?;
             answer_whole(rt, alloc, question, whole.as_str())
         }
     }

@@ -10,7 +10,7 @@
 use crate::campaigns::Pool;
 use crate::requests::{Request, answer_to_request};
 use crate::tally::{Tally, print_difference};
-use crate::texts::expanded;
+use crate::texts::text_with_braces_expanded;
 use pst_sources::SourceFile;
 use std::fs::Files;
 use std::sync::Wait;
@@ -64,14 +64,14 @@ fn push_own<'a, R: Files + AllocGlobal>(
 ) -> io::Result<()> {
     for part in text.split("\n-- ") {
         let (name, text) = part.split_once("\n").unwrap_or((part, ""));
-        let bytes = expanded(rt, text)?.into_bytes();
+        let bytes = text_with_braces_expanded(rt, text)?.into_bytes();
         files.push(SourceFile { name, bytes })?;
     }
     Ok(())
 }
 
-/// Asks a block of the file at that path, and prints how its answer differs.
-fn ask_block<R: Threads + Wait + Sync + Files + Print + AllocGlobal>(
+/// Checks a block of the file at that path, and prints how its answer differs.
+fn check_block<R: Threads + Wait + Sync + Files + Print + AllocGlobal>(
     rt: &R,
     pool: &mut Pool,
     tally: &mut Tally,
@@ -99,8 +99,8 @@ fn ask_block<R: Threads + Wait + Sync + Files + Print + AllocGlobal>(
     Ok(())
 }
 
-/// Asks the blocks of a file, and prints those that have another answer.
-pub fn ask_blocks<R: Threads + Wait + Sync + Files + Print + AllocGlobal>(
+/// Checks the blocks of a file, and prints those that have another answer.
+pub fn check_blocks<R: Threads + Wait + Sync + Files + Print + AllocGlobal>(
     rt: &R,
     pool: &mut Pool,
     tally: &mut Tally,
@@ -108,10 +108,10 @@ pub fn ask_blocks<R: Threads + Wait + Sync + Files + Print + AllocGlobal>(
     text: &str,
 ) -> anyhow::Result<()> {
     let Some(whole) = text.strip_suffix("\n$ end\n") else {
-        return Ok(tally.complain(rt, path, "the last line is not `$ end`")?);
+        return Ok(tally.print_and_count_problem(rt, path, "the last line is not `$ end`")?);
     };
     for block in whole.split("\n$ ").skip(1) {
-        ask_block(rt, pool, tally, path, block)?;
+        check_block(rt, pool, tally, path, block)?;
     }
     Ok(())
 }

@@ -53,7 +53,11 @@ fn found_text(
 }
 
 /// The core of a run, or the word of its verdict if it has no core.
-fn run_text(alloc: Global, typed: &Typed, run: &Run) -> Result<String, AllocError>
+fn core_numbers_or_verdict_word(
+    alloc: Global,
+    typed: &Typed,
+    run: &Run,
+) -> Result<String, AllocError>
     requires model { run.now.shaped.model ≡ typed.now }
     requires matches { IfSome run.now.history (λ h. matches typed.now run.now.shaped.case h ≡ true) }
 {
@@ -69,7 +73,7 @@ fn first_text(alloc: Global, typed: &Typed, runs: &[Run]) -> Result<String, Allo
     requires lawful { AreLawful typed.now runs.now }
 {
     match runs.split_first() {
-        Some((run, _)) => run_text(alloc, typed, run),
+        Some((run, _)) => core_numbers_or_verdict_word(alloc, typed, run),
         None => String::from_str(alloc, "no items"),
     }
 }

@@ -3,16 +3,16 @@
 use pst_compile::compile;
 use pst_eval::{Callbacks, Plain};
 use pst_model::Typed;
-use pst_tests::support::typed_of;
+use pst_tests::support::typed_model_of_text;
 use pst_value::{Fault, Value};
 use std::alloc::{AllocError, Global};
 
 /// A value with the turns left, or a fault.
-type Outcome = Result<(Value, u32), Fault>;
+type EvaluationResult = Result<(Value, u32), Fault>;
 
 /// `value` if both are the same value with the same number of turns left, the name of the fault if both are the same
 /// fault, and `different` otherwise.
-fn agreed(one: &Outcome, other: &Outcome) -> &'static str {
+fn word_for_equal_outcomes(one: &EvaluationResult, other: &EvaluationResult) -> &'static str {
     match one {
         Ok((value, turns)) => match other {
             Ok((same, left)) if value == same && turns == left => "value",
@@ -26,21 +26,25 @@ fn agreed(one: &Outcome, other: &Outcome) -> &'static str {
 }
 
 /// The outcome of the plain evaluator for the initial state.
-fn plain_outcome(alloc: Global, typed: &Typed) -> Result<Outcome, AllocError> {
+fn plain_outcome(alloc: Global, typed: &Typed) -> Result<EvaluationResult, AllocError> {
     Plain::new(typed).init(alloc)
 }
 
 /// The outcome of compiled code for the initial state, compared with the other one.
-fn compared_with(alloc: Global, typed: Typed, plain: &Outcome) -> Result<&'static str, AllocError> {
+fn compared_with(
+    alloc: Global,
+    typed: Typed,
+    plain: &EvaluationResult,
+) -> Result<&'static str, AllocError> {
     match compile(alloc, typed) {
-        Ok(compiled) => Ok(agreed(plain, &compiled.init(alloc)?)),
+        Ok(compiled) => Ok(word_for_equal_outcomes(plain, &compiled.init(alloc)?)),
         Err(_) => Ok("not compiled"),
     }
 }
 
 /// The outcome of both evaluators for the initial state of the model that a text begins with.
-pub fn outcome_of(alloc: Global, text: &str) -> Result<&'static str, AllocError> {
-    let Some(typed) = typed_of(alloc, text) else {
+pub fn initial_state_outcome_word(alloc: Global, text: &str) -> Result<&'static str, AllocError> {
+    let Some(typed) = typed_model_of_text(alloc, text) else {
         return Ok("not well typed");
     };
     let plain = plain_outcome(alloc, &typed)?;

@@ -8,7 +8,7 @@ use std::alloc::{AllocError, Global};
 use std::thread::Threads;
 
 /// The lines that a comment says: those that begin with `; ` and a digit, or with `; refused`.
-fn said(alloc: Global, text: &str) -> Result<String, AllocError> {
+fn verdict_lines_in_comments(alloc: Global, text: &str) -> Result<String, AllocError> {
     let mut lines = String::new(alloc);
     for line in text.lines() {
         if let Some(said) = line.strip_prefix("; ") {
@@ -22,13 +22,13 @@ fn said(alloc: Global, text: &str) -> Result<String, AllocError> {
 }
 
 /// Whether the lines that were written are those of the comments of a text; if not, the lines.
-fn compared(
+fn comparison_with_comments(
     alloc: Global,
     text: &str,
     written: &[u8],
     status: Status,
 ) -> Result<String, AllocError> {
-    let said = said(alloc, text)?;
+    let said = verdict_lines_in_comments(alloc, text)?;
     if written == said.as_bytes() {
         let count = said.lines().count();
         let code = status.code();
@@ -61,5 +61,5 @@ pub fn comments_answer<R: Threads + Sync>(
     } else {
         judge_text_keep_going(rt, alloc, input.as_slice(), &mut out)
     };
-    compared(alloc, text, out.into_inner().as_slice(), status)
+    comparison_with_comments(alloc, text, out.into_inner().as_slice(), status)
 }

@@ -32,7 +32,7 @@ fn chosen_by(request: &Request<'_>) -> Chosen {
 }
 
 /// What is written of the chosen items of an input in files, and the status.
-fn explained<R: Threads + Sync>(
+fn explanations_and_status<R: Threads + Sync>(
     rt: &R,
     alloc: Global,
     files: &[SourceFile<'_>],
@@ -41,13 +41,13 @@ fn explained<R: Threads + Sync>(
 ) -> Result<String, AllocError> {
     let input = joined(alloc, files)?;
     let mut out = Out::new(Vec::new(alloc));
-    let asked = ExplainOptions {
+    let options = ExplainOptions {
         files,
         chosen,
         most: usize::MAX,
         form: ExplanationForm::Text(width),
     };
-    let status = explain_text(rt, alloc, input.as_slice(), asked, &mut out);
+    let status = explain_text(rt, alloc, input.as_slice(), options, &mut out);
     with_status(alloc, out.into_inner().as_slice(), status)
 }
 
@@ -60,7 +60,7 @@ pub fn explain_answer<R: Threads + Sync>(
 ) -> Result<String, AllocError> {
     let width = request.number("width", 80) as usize;
     let chosen = chosen_by(request);
-    explained(rt, alloc, request.files.as_slice(), chosen, width)
+    explanations_and_status(rt, alloc, request.files.as_slice(), chosen, width)
 }
 
 /// How long the longest line is in the explanations of the files, each alone.
@@ -72,7 +72,7 @@ pub fn longest_answer<R: Threads + Sync>(
     let width = request.number("width", 80) as usize;
     let mut longest = 0;
     for file in request.files.as_slice() {
-        let text = explained(rt, alloc, slice::from_ref(file), Chosen::All, width)?;
+        let text = explanations_and_status(rt, alloc, slice::from_ref(file), Chosen::All, width)?;
         for line in text.as_str().lines() {
             longest = line.len().max(longest);
         }

@@ -1,6 +1,6 @@
 //! Random expressions.
 
-use crate::forms::{BODY, BOUND, FORMS, LEAST, TAKEN};
+use crate::forms::{BODY, BOUND, FORMS, SMALLEST_EXPRESSIONS, TAKEN};
 use rand_core::Rng;
 use rand_pcg::Pcg64;
 use std::alloc::{AllocError, Global};
@@ -30,7 +30,7 @@ fn first_of<'a>(built: &'a [String], letter: &str) -> Option<&'a str> {
 }
 
 /// An expression of the type of the letter: rather one that was built late.
-fn chosen<'a>(built: &'a [String], words: &mut Pcg64, letter: &str) -> &'a str {
+fn random_expression_of_type<'a>(built: &'a [String], words: &mut Pcg64, letter: &str) -> &'a str {
     let one = below(words, built.len());
     let start = one.max(below(words, built.len())).min(built.len());
     let (front, back) = built.split_at(start);
@@ -41,7 +41,7 @@ fn chosen<'a>(built: &'a [String], words: &mut Pcg64, letter: &str) -> &'a str {
 }
 
 /// The form with an expression for each part.
-fn filled(
+fn form_with_random_parts(
     alloc: Global,
     built: &[String],
     words: &mut Pcg64,
@@ -52,17 +52,17 @@ fn filled(
         if index == 0 {
             text.push_str(piece)?;
         } else if let Some((letter, rest)) = piece.split_at_checked(1) {
-            text.push_str(chosen(built, words, letter))?;
+            text.push_str(random_expression_of_type(built, words, letter))?;
             text.push_str(rest)?;
         }
     }
     Ok(text)
 }
 
-/// The smallest expressions.
-fn least(alloc: Global) -> Result<Vec<String>, AllocError> {
+/// A list of the smallest expressions.
+fn smallest_expressions(alloc: Global) -> Result<Vec<String>, AllocError> {
     let mut built = Vec::new(alloc);
-    for form in LEAST {
+    for form in SMALLEST_EXPRESSIONS {
         built.push(String::from_str(alloc, form)?)?;
     }
     Ok(built)
@@ -80,7 +80,7 @@ fn build(
             .get(below(words, FORMS.len()))
             .copied()
             .unwrap_or("i0");
-        let text = filled(alloc, built.as_slice(), words, form)?;
+        let text = form_with_random_parts(alloc, built.as_slice(), words, form)?;
         if text.len() <= MOST_BYTES && (may_apply || !text.as_str().contains("(f ")) {
             built.push(text)?;
         }
@@ -95,9 +95,9 @@ fn expression(
     may_apply: bool,
     bound: &str,
 ) -> Result<String, AllocError> {
-    let mut built = least(alloc)?;
+    let mut built = smallest_expressions(alloc)?;
     build(alloc, &mut built, words, may_apply)?;
-    filled(alloc, built.as_slice(), words, bound)
+    form_with_random_parts(alloc, built.as_slice(), words, bound)
 }
 
 /// The text of a model with a random initial state and a random function. If `is_taken`, an expression that takes a

@@ -1,9 +1,9 @@
 //! The folders of rows, which `data/folders` lists: each line has a folder and how many rows it has at least. A folder with fewer
 //! was cut short or is not read as it should be.
 
-use crate::blocks::ask_blocks;
+use crate::blocks::check_blocks;
 use crate::campaigns::Pool;
-use crate::tables::ask_tables;
+use crate::tables::check_tables;
 use crate::tally::Tally;
 use std::fs::Files;
 use std::sync::Wait;
@@ -23,9 +23,9 @@ fn names_in<R: Files + AllocGlobal + Clone + Drop>(
     Ok(names)
 }
 
-/// Asks the rows of a file: of its tables if its name ends in `.rows`, of its blocks if it ends in `.blocks`. Other files are
-/// inputs of blocks.
-fn ask_file<R: Threads + Wait + Sync + Files + Print + AllocGlobal>(
+/// Checks the rows of a file: of its tables if its name ends in `.rows`, of its blocks if it ends in `.blocks`. Other
+/// files are inputs of blocks.
+fn check_file_of_rows<R: Threads + Wait + Sync + Files + Print + AllocGlobal>(
     rt: &R,
     pool: &mut Pool,
     tally: &mut Tally,
@@ -33,16 +33,16 @@ fn ask_file<R: Threads + Wait + Sync + Files + Print + AllocGlobal>(
 ) -> anyhow::Result<()> {
     if path.ends_with(".rows") {
         let text = fs::read_to_string(rt, path)?;
-        ask_tables(rt, tally, path, text.as_str())?;
+        check_tables(rt, tally, path, text.as_str())?;
     } else if path.ends_with(".blocks") {
         let text = fs::read_to_string(rt, path)?;
-        ask_blocks(rt, pool, tally, path, text.as_str())?;
+        check_blocks(rt, pool, tally, path, text.as_str())?;
     }
     Ok(())
 }
 
-/// Asks the rows of a folder, which has at least the given number of rows.
-fn ask_folder<R: Threads + Wait + Sync + Files + Print + AllocGlobal + Clone + Drop>(
+/// Checks the rows of a folder, which has at least the given number of rows.
+fn check_folder<R: Threads + Wait + Sync + Files + Print + AllocGlobal + Clone + Drop>(
     rt: &R,
     pool: &mut Pool,
     tally: &mut Tally,
@@ -52,18 +52,18 @@ fn ask_folder<R: Threads + Wait + Sync + Files + Print + AllocGlobal + Clone + D
     let before = tally.rows;
     for name in names_in(rt, folder)? {
         let path = format!(in rt.alloc(); "{folder}/{name}")?;
-        ask_file(rt, pool, tally, path.as_str())?;
+        check_file_of_rows(rt, pool, tally, path.as_str())?;
     }
     let rows = tally.rows.saturating_sub(before);
     if rows < least {
         let wrong = format!(in rt.alloc(); "{rows} rows, and at least {least} are wanted")?;
-        tally.complain(rt, folder, wrong.as_str())?;
+        tally.print_and_count_problem(rt, folder, wrong.as_str())?;
     }
     Ok(())
 }
 
-/// Asks the rows of all folders and prints those that have another answer; if there are none, a line that says so.
-pub fn ask_all<R: Threads + Wait + Sync + Files + Print + AllocGlobal + Clone + Drop>(
+/// Checks the rows of all folders and prints those that have another answer; if there are none, a line that says so.
+pub fn check_all_folders<R: Threads + Wait + Sync + Files + Print + AllocGlobal + Clone + Drop>(
     rt: &R,
     pool: &mut Pool,
 ) -> anyhow::Result<()> {
@@ -74,9 +74,9 @@ pub fn ask_all<R: Threads + Wait + Sync + Files + Print + AllocGlobal + Clone + 
             Some(("#", _)) => {}
             Some((folder, least)) => {
                 let least = least.parse().unwrap_or(usize::MAX);
-                ask_folder(rt, pool, &mut tally, folder, least)?;
+                check_folder(rt, pool, &mut tally, folder, least)?;
             }
-            None => tally.complain(rt, "folders", line)?,
+            None => tally.print_and_count_problem(rt, "folders", line)?,
         }
     }
     if tally.misses == 0 {

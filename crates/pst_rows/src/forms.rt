@@ -6,7 +6,7 @@
 //! `c` a list of calls. The letters are also the names that are bound to such values; `k` is a further integer.
 
 /// The smallest expressions.
-pub const LEAST: [&str; 27] = [
+pub const SMALLEST_EXPRESSIONS: [&str; 27] = [
     "i0",
     "i1",
     "i-3",

@@ -9,7 +9,7 @@ use pst_gen::generate;
 use pst_judge::Valid;
 use pst_model::Typed;
 use pst_runs::run_tree;
-use pst_tests::support::typed_of;
+use pst_tests::support::typed_model_of_text;
 use std::alloc::{AllocError, Global};
 
 /// The wanted numbers of commands, branches and commands of a suffix.
@@ -104,7 +104,7 @@ pub fn generate_answer(alloc: Global, model: &str, text: &str) -> Result<String,
     let Some(sizes) = sizes_of(head) else {
         return String::from_str(alloc, "no sizes");
     };
-    match typed_of(alloc, model) {
+    match typed_model_of_text(alloc, model) {
         Some(typed) => generated_by(alloc, &typed, sizes, rest),
         None => String::from_str(alloc, "no model"),
     }

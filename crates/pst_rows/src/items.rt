@@ -1,7 +1,7 @@
 //! The answers about cases and runs.
 ghost use Rattle.std.specs.Prelude.{◌≡◌};
 
-use crate::models::{lines_of, output_answer, text_of};
+use crate::models::{lines_joined_by_commas, output_answer, text_of};
 use pst_case::{Case, Run, shape};
 use pst_cli::judge_text;
 use pst_eval::Plain;
@@ -9,7 +9,7 @@ use pst_judge::{Valid, judge_one, valid, verdict};
 use pst_model::Typed;
 use pst_runs::{read_runs, write_runs};
 use pst_sexpr::{Out, read};
-use pst_tests::support::typed_of;
+use pst_tests::support::typed_model_of_text;
 use pst_typing::{load, trees_after_model};
 use std::alloc::{AllocError, Global};
 use std::thread::Threads;
@@ -109,7 +109,7 @@ pub fn alone_answer(alloc: Global, text: &str) -> Result<String, AllocError> {
 }
 
 /// The text that is written for items of a model.
-fn written(alloc: Global, typed: &Typed, items: &str) -> Option<String> {
+fn text_written_for_items(alloc: Global, typed: &Typed, items: &str) -> Option<String> {
     let trees = read(alloc, items.as_bytes()).ok()?;
     let Ok(runs) = read_runs(alloc, typed, trees.as_slice()) else {
         return None;
@@ -122,14 +122,17 @@ fn written(alloc: Global, typed: &Typed, items: &str) -> Option<String> {
 /// The text that is written for items of a model, with `, ` between the lines. The text that is written for this text
 /// has to be the same.
 pub fn write_answer(alloc: Global, model: &str, items: &str) -> Result<String, AllocError> {
-    let Some(typed) = typed_of(alloc, model) else {
+    let Some(typed) = typed_model_of_text(alloc, model) else {
         return String::from_str(alloc, "no model");
     };
-    let Some(once) = written(alloc, &typed, items) else {
+    let Some(once) = text_written_for_items(alloc, &typed, items) else {
         return String::from_str(alloc, "not written");
     };
-    match written(alloc, &typed, once.as_str()) {
-        Some(again) if again.as_str() == once.as_str() => lines_of(alloc, once.as_bytes()),
+    match text_written_for_items(alloc, &typed, once.as_str()) {
+        Some(again) if again.as_str() == once.as_str() => lines_joined_by_commas(
+            alloc,
+            once.as_bytes(),
+        ),
         _ => format!(in alloc; "not written again: {once}"),
     }
 }

@@ -22,7 +22,11 @@ fn as_read(input: Input<'_>) -> ItemInput<'_> {
 }
 
 /// The warnings on the items, up to the first refused one.
-fn on_runs<R: Threads + Sync>(rt: &R, alloc: Global, input: Input<'_>) -> Warnings {
+fn warnings_up_to_first_refusal<R: Threads + Sync>(
+    rt: &R,
+    alloc: Global,
+    input: Input<'_>,
+) -> Warnings {
     let Input { files: _, bytes } = input;
     let (_, judged) = judge_file(rt, alloc, bytes, Shown::All, &mut Out::new(Vec::new(alloc)));
     let Some(judged) = judged else {
@@ -41,7 +45,11 @@ fn on_runs<R: Threads + Sync>(rt: &R, alloc: Global, input: Input<'_>) -> Warnin
 }
 
 /// The warnings on the items, of which some are refused.
-fn on_answers<R: Threads + Sync>(rt: &R, alloc: Global, input: Input<'_>) -> Warnings {
+fn warnings_despite_refusals<R: Threads + Sync>(
+    rt: &R,
+    alloc: Global,
+    input: Input<'_>,
+) -> Warnings {
     let Input { files: _, bytes } = input;
     let mut out = Out::new(Vec::new(alloc));
     let (_, answered) = judge_file_keep_going(rt, alloc, bytes, Shown::All, &mut out);
@@ -72,9 +80,9 @@ pub fn item_warnings_answer<R: Threads + Sync>(
     let bytes = text.as_slice();
     let input = Input { files, bytes };
     let warnings = if keeps_on {
-        on_answers(rt, alloc, input)?
+        warnings_despite_refusals(rt, alloc, input)?
     } else {
-        on_runs(rt, alloc, input)?
+        warnings_up_to_first_refusal(rt, alloc, input)?
     };
     match warnings {
         Some(Some(warnings)) => Ok(warnings),

@@ -1,6 +1,6 @@
-//! Asks the worked rows of its data: tables of short rows, and blocks whose answers may be long, as explanations, messages
-//! and the reports of campaigns. It is a test that the gate runs as a program. It prints what has another answer than the wanted
-//! one, and a line if all is right.
+//! Checks the worked rows of its data: tables of short rows, and blocks whose answers may be long, as explanations,
+//! messages and the reports of campaigns. It is a test that the gate runs as a program. It prints what has another
+//! answer than the wanted one, and a line if all is right.
 #![tactic(auto)]
 
 mod answers;
@@ -27,7 +27,7 @@ mod texts;
 mod words;
 
 use campaigns::{Pool, add_system};
-use folders::ask_all;
+use folders::check_all_folders;
 use pst_samples::{Counter, Flags, Pair, Registry, Side, Stuck};
 use std::process::ExitCode;
 use std::sync::Arc;
@@ -70,7 +70,7 @@ fn main(rt: HostRuntime) -> ExitCode {
             }
             add_boxed!(pool, pool.pair, alloc, Pair::new(Side::First, flags));
             add_boxed!(pool, pool.pair, alloc, Pair::new(Side::Second, same));
-            !pool.lacks_memory && ask_all(&rt, &mut pool).is_ok()
+            !pool.lacks_memory && check_all_folders(&rt, &mut pool).is_ok()
         });
     match worker {
         Ok(worker) => {

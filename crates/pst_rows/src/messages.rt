@@ -10,11 +10,11 @@ use std::slice;
 pub fn message_answer(
     alloc: Global,
     request: &Request<'_>,
-    asked: MessageScope,
+    scope: MessageScope,
 ) -> Result<String, AllocError> {
     let files = request.files.as_slice();
     let text = joined(alloc, files)?;
-    match input_error_messages_text(alloc, files, text.as_slice(), asked)? {
+    match input_error_messages_text(alloc, files, text.as_slice(), scope)? {
         Some(message) => Ok(message),
         None => String::from_str(alloc, "nothing is refused\n"),
     }

@@ -5,7 +5,7 @@ use pst_compile::compile;
 use pst_eval::{Callbacks, Plain};
 use pst_model::Typed;
 use pst_sexpr::{Out, Tree, read, write};
-use pst_tests::support::typed_of;
+use pst_tests::support::typed_model_of_text;
 use pst_tests::{Model, print_model, read_model};
 use pst_value::Value;
 use std::alloc::{AllocError, Global};
@@ -46,7 +46,7 @@ pub fn text_of(alloc: Global, bytes: &[u8]) -> Result<String, AllocError> {
 }
 
 /// The lines, with `, ` between them.
-pub fn lines_of(alloc: Global, bytes: &[u8]) -> Result<String, AllocError> {
+pub fn lines_joined_by_commas(alloc: Global, bytes: &[u8]) -> Result<String, AllocError> {
     let text = text_of(alloc, bytes)?;
     text.as_str().trim().replace(alloc, "\n", ", ")
 }
@@ -54,7 +54,7 @@ pub fn lines_of(alloc: Global, bytes: &[u8]) -> Result<String, AllocError> {
 /// A status, and the lines that were written, with `, ` between them.
 pub fn output_answer(alloc: Global, status: Status, bytes: &[u8]) -> Result<String, AllocError> {
     let status = status.code();
-    let lines = lines_of(alloc, bytes)?;
+    let lines = lines_joined_by_commas(alloc, bytes)?;
     format!(in alloc; "{status} {lines}")
 }
 
@@ -107,7 +107,10 @@ pub fn print_answer(alloc: Global, text: &str) -> Result<String, AllocError> {
 }
 
 /// The initial state by `callbacks`, an integer, and the turns left; or the fault.
-fn opening_by<C: Callbacks>(alloc: Global, callbacks: &C) -> Result<String, AllocError> {
+fn initial_state_by_callbacks<C: Callbacks>(
+    alloc: Global,
+    callbacks: &C,
+) -> Result<String, AllocError> {
     match callbacks.init(alloc)? {
         Ok((Value::Int(number), turns)) => format!(in alloc; "{number} {turns}"),
         Ok(_) => String::from_str(alloc, "no integer"),
@@ -116,9 +119,9 @@ fn opening_by<C: Callbacks>(alloc: Global, callbacks: &C) -> Result<String, Allo
 }
 
 /// The initial state of a model by compiled code.
-fn compiled_opening(alloc: Global, typed: Typed) -> Result<String, AllocError> {
+fn initial_state_by_compiled_code(alloc: Global, typed: Typed) -> Result<String, AllocError> {
     match compile(alloc, typed) {
-        Ok(compiled) => opening_by(alloc, &compiled),
+        Ok(compiled) => initial_state_by_callbacks(alloc, &compiled),
         Err(_) => String::from_str(alloc, "not compiled"),
     }
 }
@@ -132,11 +135,11 @@ fn same_answer(alloc: Global, plain: String, compiled: String) -> Result<String,
 }
 
 /// The initial state of the model of a text by the plain evaluator and by compiled code, which have to agree.
-pub fn opening_answer(alloc: Global, text: &str) -> Result<String, AllocError> {
-    let Some(typed) = typed_of(alloc, text) else {
+pub fn initial_state_answer(alloc: Global, text: &str) -> Result<String, AllocError> {
+    let Some(typed) = typed_model_of_text(alloc, text) else {
         return String::from_str(alloc, "no model");
     };
-    let plain = opening_by(alloc, &Plain::new(&typed))?;
-    let compiled = compiled_opening(alloc, typed)?;
+    let plain = initial_state_by_callbacks(alloc, &Plain::new(&typed))?;
+    let compiled = initial_state_by_compiled_code(alloc, typed)?;
     same_answer(alloc, plain, compiled)
 }

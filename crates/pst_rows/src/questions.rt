@@ -15,7 +15,7 @@ pub enum Question {
     List,
     /// The initial state of its model, an integer, and the turns left; or the fault. The plain evaluator and compiled
     /// code have to agree on it.
-    Opening,
+    InitialState,
     /// The verdicts on its runs, `case` for a case; or `RUN COMMAND KIND`.
     Runs,
     /// The text that is written for its cases and runs, with `, ` between the lines. The text that is written for this
@@ -55,7 +55,7 @@ pub fn question_named(name: &str) -> Option<Question> {
         "check" => Some(Question::Check),
         "print" => Some(Question::Print),
         "list" => Some(Question::List),
-        "opening" => Some(Question::Opening),
+        "opening" => Some(Question::InitialState),
         "generate" => Some(Question::Generate),
         _ => question_about_items(name),
     }

@@ -1,6 +1,6 @@
 //! Random well-typed expressions, evaluated by the plain evaluator and by compiled code.
 
-use crate::evaluated::outcome_of;
+use crate::evaluated::initial_state_outcome_word;
 use crate::expressions::model_text;
 use crate::requests::Request;
 use rand_pcg::Pcg64;
@@ -32,7 +32,7 @@ fn all_outcomes(
     for number in 0..count {
         let mut words = Pcg64::new(16, number as u128);
         let model = model_text(alloc, &mut words, number % 100 == 0)?;
-        let outcome = outcome_of(alloc, model.as_str())?;
+        let outcome = initial_state_outcome_word(alloc, model.as_str())?;
         if count_of(&OUTCOMES, outcome) == 0 {
             text.push_str(format!(in alloc; "{outcome}: {model}\n")?.as_str())?;
         }

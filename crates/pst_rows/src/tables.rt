@@ -8,14 +8,14 @@
 use crate::answers::{QuestionText, answer_to};
 use crate::questions::{Question, question_named};
 use crate::tally::Tally;
-use crate::texts::expanded;
+use crate::texts::text_with_braces_expanded;
 use std::fs::Files;
 use std::io;
 use std::thread::Threads;
 
 /// The head of a table: its question, and what comes before and after each row's text.
 #[derive(Drop)]
-struct Head {
+struct TableHead {
     question: Question,
     before: String,
     after: String,
@@ -26,7 +26,7 @@ fn text_after<R: Files + AllocGlobal>(rt: &R, lines: &str, word: &str) -> io::Re
     for line in lines.lines() {
         if let Some((first, text)) = line.split_once(" ") {
             if first == word {
-                return expanded(rt, text);
+                return text_with_braces_expanded(rt, text);
             }
         }
     }
@@ -34,36 +34,36 @@ fn text_after<R: Files + AllocGlobal>(rt: &R, lines: &str, word: &str) -> io::Re
 }
 
 /// Reads the lines of a head. `None` if there is no question of its name.
-fn read_head<R: Files + AllocGlobal>(rt: &R, lines: &str) -> io::Result<Option<Head>> {
+fn read_head<R: Files + AllocGlobal>(rt: &R, lines: &str) -> io::Result<Option<TableHead>> {
     let name = text_after(rt, lines, "ask")?;
     let Some(question) = question_named(name.as_str()) else {
         return Ok(None);
     };
     let before = text_after(rt, lines, "before")?;
     let after = text_after(rt, lines, "after")?;
-    Ok(Some(Head {
+    Ok(Some(TableHead {
         question,
         before,
         after,
     }))
 }
 
-/// Asks a row, and prints it with its answer if that is not the wanted one.
-fn ask_row<R: Threads + Sync + Files + Print + AllocGlobal>(
+/// Checks a row, and prints it with its answer if that is not the wanted one.
+fn check_row<R: Threads + Sync + Files + Print + AllocGlobal>(
     rt: &R,
     tally: &mut Tally,
-    head: &Head,
+    head: &TableHead,
     text: &str,
     want: &str,
 ) -> io::Result<()> {
-    let whole = expanded(rt, text)?;
-    let wanted = expanded(rt, want)?;
-    let asked = QuestionText {
+    let whole = text_with_braces_expanded(rt, text)?;
+    let wanted = text_with_braces_expanded(rt, want)?;
+    let question_text = QuestionText {
         before: head.before.as_str(),
         text: whole.as_str(),
         after: head.after.as_str(),
     };
-    let answer = answer_to(rt, rt.alloc(), head.question, &asked)?;
+    let answer = answer_to(rt, rt.alloc(), head.question, &question_text)?;
     let is_right = answer.as_str() == wanted.as_str();
     tally.count(is_right);
     if is_right {
@@ -72,11 +72,11 @@ fn ask_row<R: Threads + Sync + Files + Print + AllocGlobal>(
     println!(rt; "{text}\n  => {answer}\n  wanted {want}")
 }
 
-/// Asks the rows of a table, and returns what is left of the last line that has an answer.
-fn ask_rows<R: Threads + Sync + Files + Print + AllocGlobal>(
+/// Checks the rows of a table, and returns what is left of the last line that has an answer.
+fn check_rows<R: Threads + Sync + Files + Print + AllocGlobal>(
     rt: &R,
     tally: &mut Tally,
-    head: &Head,
+    head: &TableHead,
     rows: &str,
 ) -> io::Result<String> {
     let mut text = String::new(rt.alloc());
@@ -84,7 +84,7 @@ fn ask_rows<R: Threads + Sync + Files + Print + AllocGlobal>(
         match line.split_once("=>") {
             Some((end, want)) => {
                 text.push_str(end)?;
-                ask_row(
+                check_row(
                     rt,
                     tally,
                     head,
@@ -102,44 +102,44 @@ fn ask_rows<R: Threads + Sync + Files + Print + AllocGlobal>(
     Ok(text)
 }
 
-/// Asks the rows of a table, and prints its name if a row of it has another answer.
-fn ask_table<R: Threads + Sync + Files + Print + AllocGlobal>(
+/// Checks the rows of a table, and prints its name if a row of it has another answer.
+fn check_table<R: Threads + Sync + Files + Print + AllocGlobal>(
     rt: &R,
     tally: &mut Tally,
     place: &str,
     table: &str,
 ) -> io::Result<()> {
     let Some((lines, rows)) = table.split_once("\n\n") else {
-        return tally.complain(rt, place, "no rows");
+        return tally.print_and_count_problem(rt, place, "no rows");
     };
     let Some(head) = read_head(rt, lines)? else {
-        return tally.complain(rt, place, "there is no such question");
+        return tally.print_and_count_problem(rt, place, "there is no such question");
     };
     let before = tally.misses;
-    let rest = ask_rows(rt, tally, &head, rows)?;
+    let rest = check_rows(rt, tally, &head, rows)?;
     if tally.misses > before {
         println!(rt; "  in {place}")?;
     }
     if rest.as_str().trim().is_empty() {
         return Ok(());
     }
-    tally.complain(rt, place, "the last row has no answer")
+    tally.print_and_count_problem(rt, place, "the last row has no answer")
 }
 
-/// Asks the rows of the tables of a file, and prints those that have another answer.
-pub fn ask_tables<R: Threads + Sync + Files + Print + AllocGlobal>(
+/// Checks the rows of the tables of a file, and prints those that have another answer.
+pub fn check_tables<R: Threads + Sync + Files + Print + AllocGlobal>(
     rt: &R,
     tally: &mut Tally,
     path: &str,
     text: &str,
 ) -> io::Result<()> {
     let Some(whole) = text.strip_suffix("\nend\n") else {
-        return tally.complain(rt, path, "the last line is not `end`");
+        return tally.print_and_count_problem(rt, path, "the last line is not `end`");
     };
     for table in whole.split("\ntable ").skip(1) {
         let (name, rest) = table.split_once("\n").unwrap_or((table, ""));
         let place = format!(in rt.alloc(); "{path} {name}")?;
-        ask_table(rt, tally, place.as_str(), rest)?;
+        check_table(rt, tally, place.as_str(), rest)?;
     }
     Ok(())
 }

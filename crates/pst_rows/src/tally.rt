@@ -1,9 +1,9 @@
-//! How many rows were asked, and what is printed of those that have another answer.
+//! How many rows were checked, and what is printed of those that have another answer.
 
 use std::alloc::{AllocError, Global};
 use std::io;
 
-/// How many rows were asked, and how many things are wrong with them.
+/// How many rows were checked, and how many things are wrong with them.
 #[derive(Drop)]
 pub struct Tally {
     pub rows: usize,
@@ -11,7 +11,7 @@ pub struct Tally {
 }
 
 impl Tally {
-    /// Nothing was asked.
+    /// No row was checked.
     pub fn new() -> Tally {
         Tally { rows: 0, misses: 0 }
     }
@@ -25,7 +25,7 @@ impl Tally {
     }
 
     /// Prints what is wrong with a file or a table, and counts it.
-    pub fn complain<R: Print + AllocGlobal>(
+    pub fn print_and_count_problem<R: Print + AllocGlobal>(
         &mut self,
         rt: &R,
         place: &str,
@@ -37,7 +37,7 @@ impl Tally {
 }
 
 /// The lines of a text, with an empty last one if it ends in a line break.
-fn lines_of<'a>(alloc: Global, text: &'a str) -> Result<Vec<&'a str>, AllocError> {
+fn split_lines<'a>(alloc: Global, text: &'a str) -> Result<Vec<&'a str>, AllocError> {
     let mut lines = Vec::new(alloc);
     for line in text.split('\n') {
         lines.push(line)?;
@@ -90,8 +90,8 @@ pub fn print_difference<R: Print + AllocGlobal>(
     wanted: &str,
     answer: &str,
 ) -> io::Result<()> {
-    let wanted = lines_of(rt.alloc(), wanted)?;
-    let answer = lines_of(rt.alloc(), answer)?;
+    let wanted = split_lines(rt.alloc(), wanted)?;
+    let answer = split_lines(rt.alloc(), answer)?;
     let front = common_front(wanted.as_slice(), answer.as_slice());
     let wanted = middle(wanted.as_slice(), front, 0);
     let answer = middle(answer.as_slice(), front, 0);

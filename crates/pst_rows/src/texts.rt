@@ -8,7 +8,7 @@ use std::alloc::{AllocError, Global};
 use std::fs::Files;
 use std::{fs, io};
 
-/// Adds the part, in which each `#` is the next number, and answers the last number.
+/// Adds the part, in which each `#` is the next number, and returns the last number.
 fn push_numbered(
     alloc: Global,
     whole: &mut String,
@@ -86,7 +86,7 @@ fn push_braced<R: Files + AllocGlobal>(rt: &R, whole: &mut String, inside: &str)
 }
 
 /// The text with what its braces mean.
-pub fn expanded<R: Files + AllocGlobal>(rt: &R, text: &str) -> io::Result<String> {
+pub fn text_with_braces_expanded<R: Files + AllocGlobal>(rt: &R, text: &str) -> io::Result<String> {
     let mut whole = String::new(rt.alloc());
     for (index, piece) in text.split('{').enumerate() {
         let mut rest = piece;

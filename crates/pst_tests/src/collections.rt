@@ -5,7 +5,7 @@ use std::alloc::{AllocError, Global};
 use std::test::Fail;
 
 /// What operations return for items on their way from a slice to a `Vec`.
-fn asked_of_items(alloc: Global) -> Result<String, AllocError> {
+fn results_of_items_operations(alloc: Global) -> Result<String, AllocError> {
     let mut items = Items::from_slice(alloc, &[1u8, 2])?;
     items.push(3)?;
     items.set(0, 9);
@@ -18,7 +18,7 @@ fn asked_of_items(alloc: Global) -> Result<String, AllocError> {
 
 #[test]
 fn items_hold_a_vec(rt: HostRuntime) -> Result<(), Fail> {
-    let text = asked_of_items(rt.alloc())?;
+    let text = results_of_items_operations(rt.alloc())?;
     assert_eq!(rt; text.as_str(), "(3, false, Some(9)) Some(3) [9, 2, 4]");
     Ok(())
 }
@@ -44,7 +44,7 @@ fn a_box_holds_its_value(rt: HostRuntime) -> Result<(), Fail> {
 }
 
 /// What operations return for a text, for a copy of it, and for the same text made byte by byte.
-fn asked_of_text(alloc: Global, text: &Text) -> Result<String, AllocError> {
+fn results_of_text_operations(alloc: Global, text: &Text) -> Result<String, AllocError> {
     let copy = text.copy(alloc)?;
     let mut pushed = Text::new(alloc);
     let was_empty = pushed.is_empty();
@@ -59,7 +59,7 @@ fn asked_of_text(alloc: Global, text: &Text) -> Result<String, AllocError> {
 #[test]
 fn a_text_holds_its_bytes(rt: HostRuntime) -> Result<(), Fail> {
     let text = Text::from_string(String::from_str(rt.alloc(), "ab")?);
-    let asked = asked_of_text(rt.alloc(), &text)?;
+    let asked = results_of_text_operations(rt.alloc(), &text)?;
     assert_eq!(rt; asked.as_str(), "true (true, true) 2 ab");
     Ok(())
 }

@@ -1,7 +1,7 @@
 //! Copies are equal to what they are copies of.
 ghost use Rattle.std.specs.Prelude.{◌≡◌};
 
-use crate::support::{ATLAS, COUNTER, REGISTRY, typed_of};
+use crate::support::{ATLAS, COUNTER, REGISTRY, typed_model_of_text};
 use pst_case::{Run, shape};
 use pst_model::Source;
 use pst_runs::read_runs;
@@ -11,7 +11,7 @@ use std::test::Fail;
 
 /// Whether the run that `item` spells is equal to its copy.
 fn is_copied(alloc: Global, model: &str, item: &str) -> Option<bool> {
-    let typed = typed_of(alloc, model)?;
+    let typed = typed_model_of_text(alloc, model)?;
     let trees = read(alloc, item.as_bytes()).ok()?;
     let mut runs = read_runs(alloc, &typed, trees.as_slice()).ok()?;
     let Run { shaped, history } = runs.pop()?;

@@ -1,4 +1,4 @@
-//! The search over merges, on a lamp.
+//! The search over interleavings, on a lamp.
 ghost use Rattle.std.specs.Prelude.{◌<◌, ◌+◌, ◌^◌, sum};
 
 use pst_grid::{
@@ -10,16 +10,16 @@ use std::test::Fail;
 
 /// A command of a branch.
 #[derive(Clone, Copy)]
-struct Command {
+struct LampCommand {
     branch: usize,
     index: usize,
 }
 
-impl Command {
+impl LampCommand {
     /// The command of a branch's number and its place there.
-    fn at(place: (usize, usize)) -> Command {
+    fn at(place: (usize, usize)) -> LampCommand {
         let (branch, index) = place;
-        Command { branch, index }
+        LampCommand { branch, index }
     }
 }
 
@@ -27,15 +27,15 @@ impl Command {
 const NONE: (usize, usize) = (usize::MAX, usize::MAX);
 
 /// A lamp, which is off at first. One command turns it on and one turns it off, one is true only if it is on,
-/// and one faults if it is off. All other commands are true, and leave it. With `asks_last` the end of all
+/// and one faults if it is off. All other commands are true, and leave it. With `ends_true_if_on` the end of all
 /// branches is true only if it is on.
 #[derive(Drop)]
 struct Lamp {
-    on: Command,
-    off: Command,
-    asks: Command,
-    needs: Command,
-    asks_last: bool,
+    on: LampCommand,
+    off: LampCommand,
+    true_if_on: LampCommand,
+    needs: LampCommand,
+    ends_true_if_on: bool,
     steps_made: Cell<usize>,
 }
 
@@ -61,11 +61,11 @@ impl Steps for Lamp {
         if (b == lamp.on.branch) && (i == lamp.on.index) then Next true else
         if (b == lamp.off.branch) && (i == lamp.off.index) then Next false else
         if is_on then Next true else
-        if (b == lamp.asks.branch) && (i == lamp.asks.index) then Stop False else
+        if (b == lamp.true_if_on.branch) && (i == lamp.true_if_on.index) then Stop False else
         if (b == lamp.needs.branch) && (i == lamp.needs.index) then Stop (Fault i) else
         Next false };
 
-    ghost rest = { λ lamp is_on. if lamp.asks_last && not is_on then StopsAt 0 False else AllTrue };
+    ghost rest = { λ lamp is_on. if lamp.ends_true_if_on && not is_on then StopsAt 0 False else AllTrue };
 
     ghost most_rest = { λ _. 1 };
 
@@ -96,7 +96,7 @@ impl Steps for Lamp {
         if *state {
             return Ok(StepOutcome::Next(true));
         }
-        if branch == self.asks.branch && index == self.asks.index {
+        if branch == self.true_if_on.branch && index == self.true_if_on.index {
             return Ok(StepOutcome::Stop(StopReason::False));
         }
         if branch == self.needs.branch && index == self.needs.index {
@@ -106,7 +106,7 @@ impl Steps for Lamp {
     }
 
     fn run_rest(&self, _alloc: Global, state: &bool) -> Result<(Ending<usize>, usize), AllocError> {
-        if !self.asks_last {
+        if !self.ends_true_if_on {
             return Ok((Ending::AllTrue, 0));
         }
         self.steps_made.set(self.steps_made.get().saturating_add(1));
@@ -118,7 +118,7 @@ impl Steps for Lamp {
     }
 
     fn has_rest(&self) -> bool {
-        self.asks_last
+        self.ends_true_if_on
     }
 
     fn keep(&self, _alloc: Global, state: &bool) -> Result<bool, AllocError> {
@@ -128,14 +128,14 @@ impl Steps for Lamp {
 
 impl Lamp {
     /// The lamp of commands at these places, in the order of its fields.
-    fn new(commands: [(usize, usize); 4], asks_last: bool) -> Lamp {
-        let [on, off, asks, needs] = commands;
+    fn new(commands: [(usize, usize); 4], ends_true_if_on: bool) -> Lamp {
+        let [on, off, true_if_on, needs] = commands;
         Lamp {
-            on: Command::at(on),
-            off: Command::at(off),
-            asks: Command::at(asks),
-            needs: Command::at(needs),
-            asks_last,
+            on: LampCommand::at(on),
+            off: LampCommand::at(off),
+            true_if_on: LampCommand::at(true_if_on),
+            needs: LampCommand::at(needs),
+            ends_true_if_on,
             steps_made: Cell::new(0),
         }
     }
@@ -143,106 +143,110 @@ impl Lamp {
 
 /// What `some` and `every` return for branches of these lengths.
 #[derive(Clone, Copy, Drop)]
-struct Case {
+struct LampSearchCase {
     lengths: &'static [usize],
     // In the order of the lamp's fields.
     commands: [(usize, usize); 4],
-    asks_last: bool,
+    ends_true_if_on: bool,
     some: &'static str,
     every: &'static str,
 }
 
-const CASES: [Case; 11] = [
-    Case {
+const CASES: [LampSearchCase; 11] = [
+    LampSearchCase {
         lengths: &[],
         commands: [NONE, NONE, NONE, NONE],
-        asks_last: false,
+        ends_true_if_on: false,
         some: "Found { word: [] }",
         every: "All",
     },
-    Case {
+    LampSearchCase {
         lengths: &[1, 2],
         commands: [NONE, NONE, NONE, NONE],
-        asks_last: false,
+        ends_true_if_on: false,
         some: "Found { word: [0, 1, 1] }",
         every: "All",
     },
-    Case {
+    LampSearchCase {
         lengths: &[2, 1],
         commands: [NONE, NONE, (0, 1), NONE],
-        asks_last: false,
+        ends_true_if_on: false,
         some: "Nothing { far: 2, word: [0, 1, 0] }",
         every: "Not { word: [0, 0, 1], at: 1, why: False }",
     },
     // The place after one command of each branch is met with the lamp off, which fails, and then with it on.
-    Case {
+    LampSearchCase {
         lengths: &[1, 2],
         commands: [(0, 0), (1, 0), (1, 1), NONE],
-        asks_last: false,
+        ends_true_if_on: false,
         some: "Found { word: [1, 0, 1] }",
         every: "Not { word: [0, 1, 1], at: 2, why: False }",
     },
     // The same place is met with the lamp on, when all is true, and then with it off.
-    Case {
+    LampSearchCase {
         lengths: &[1, 2],
         commands: [(1, 0), (0, 0), (1, 1), NONE],
-        asks_last: false,
+        ends_true_if_on: false,
         some: "Found { word: [0, 1, 1] }",
         every: "Not { word: [1, 0, 1], at: 2, why: False }",
     },
     // A true merge counts more than a lesser one that faults.
-    Case {
+    LampSearchCase {
         lengths: &[1, 1],
         commands: [(1, 0), NONE, NONE, (0, 0)],
-        asks_last: false,
+        ends_true_if_on: false,
         some: "Found { word: [1, 0] }",
         every: "Not { word: [0, 1], at: 0, why: Fault(0) }",
     },
     // The first interleaving is false, and the last faults sooner than the first that faults.
-    Case {
+    LampSearchCase {
         lengths: &[1, 3],
         commands: [(1, 0), (1, 1), (0, 0), (1, 2)],
-        asks_last: false,
+        ends_true_if_on: false,
         some: "Faulted { word: [1, 0, 1, 1], at: 3, fault: 2 }",
         every: "Not { word: [0, 1, 1, 1], at: 0, why: False }",
     },
-    Case {
+    LampSearchCase {
         lengths: &[1, 1, 1],
         commands: [(2, 0), NONE, (1, 0), NONE],
-        asks_last: false,
+        ends_true_if_on: false,
         some: "Found { word: [0, 2, 1] }",
         every: "Not { word: [0, 1, 2], at: 1, why: False }",
     },
-    // With `asks_last`, only the interleaving that turns the lamp on last is true to its end, and the other one
+    // With `ends_true_if_on`, only the interleaving that turns the lamp on last is true to its end, and the other one
     // comes to its end before it is false.
-    Case {
+    LampSearchCase {
         lengths: &[1, 1],
         commands: [(0, 0), (1, 0), NONE, NONE],
-        asks_last: true,
+        ends_true_if_on: true,
         some: "Found { word: [1, 0] }",
         every: "Not { word: [0, 1], at: 2, why: False }",
     },
-    Case {
+    LampSearchCase {
         lengths: &[2, 1],
         commands: [NONE, NONE, NONE, NONE],
-        asks_last: true,
+        ends_true_if_on: true,
         some: "Nothing { far: 3, word: [0, 0, 1] }",
         every: "Not { word: [0, 0, 1], at: 3, why: False }",
     },
-    Case {
+    LampSearchCase {
         lengths: &[0, 0],
         commands: [NONE, NONE, NONE, NONE],
-        asks_last: true,
+        ends_true_if_on: true,
         some: "Nothing { far: 0, word: [] }",
         every: "Not { word: [], at: 0, why: False }",
     },
 ];
 
 /// Whether the searches return what `case` expects over branches of these lengths.
-fn is_answered_over(alloc: Global, case: &Case, lengths: &[usize]) -> Result<bool, AllocError>
+fn is_answered_over(
+    alloc: Global,
+    case: &LampSearchCase,
+    lengths: &[usize],
+) -> Result<bool, AllocError>
     requires { sum lengths.now + 1 < 2 ^ 32 }
 {
-    let lamp = Lamp::new(case.commands, case.asks_last);
+    let lamp = Lamp::new(case.commands, case.ends_true_if_on);
     let (some_answer, _) = some(alloc, &lamp, lengths, &false)?;
     let (plain, _) = some_plainly(alloc, &lamp, lengths, &false)?;
     let (every_answer, _) = every(alloc, &lamp, lengths, &false)?;
@@ -254,7 +258,7 @@ fn is_answered_over(alloc: Global, case: &Case, lengths: &[usize]) -> Result<boo
 }
 
 /// Whether the searches return what `case` expects, for at most three branches of at most eight commands each.
-fn is_answered(alloc: Global, case: &Case) -> Result<bool, AllocError> {
+fn has_expected_answers(alloc: Global, case: &LampSearchCase) -> Result<bool, AllocError> {
     match case.lengths {
         [] => is_answered_over(alloc, case, &[]),
         [one, two] if *one <= 8 && *two <= 8 => is_answered_over(alloc, case, &[*one, *two]),
@@ -268,28 +272,28 @@ fn is_answered(alloc: Global, case: &Case) -> Result<bool, AllocError> {
 #[test]
 fn answers_of_small_branches(rt: HostRuntime) -> Result<(), Fail> {
     for case in CASES {
-        assert!(rt; is_answered(rt.alloc(), &case)?, "{}", case.some);
+        assert!(rt; has_expected_answers(rt.alloc(), &case)?, "{}", case.some);
     }
     Ok(())
 }
 
 /// Whether `some` finds nothing after `far` commands, in at most `most` steps, if the event of the command `last` is
-/// false or, with `asks_last`, what runs after the branches is; and `every` holds in as few if all of it is true. The
+/// false or, with `ends_true_if_on`, what runs after the branches is; and `every` holds in as few if all of it is true. The
 /// lamp counts its steps as the searches do.
-fn is_counted(
+fn has_expected_step_counts(
     alloc: Global,
     lengths: &[usize],
     last: (usize, usize),
-    asks_last: bool,
+    ends_true_if_on: bool,
     far: usize,
     most: usize,
 ) -> Result<bool, AllocError>
     requires { sum lengths.now + 1 < 2 ^ 32 }
 {
-    let dark = Lamp::new([NONE, NONE, last, NONE], asks_last);
+    let dark = Lamp::new([NONE, NONE, last, NONE], ends_true_if_on);
     let (nothing, tried) = some(alloc, &dark, lengths, &false)?;
-    let lit = Lamp::new([NONE, NONE, NONE, NONE], asks_last);
-    let (all, seen) = every(alloc, &lit, lengths, &asks_last)?;
+    let lit = Lamp::new([NONE, NONE, NONE, NONE], ends_true_if_on);
+    let (all, seen) = every(alloc, &lit, lengths, &ends_true_if_on)?;
     let is_far = match nothing {
         SomeAnswer::Nothing { far: reached, .. } => reached == far,
         _ => false,
@@ -308,17 +312,17 @@ fn is_counted(
 #[test]
 fn steps_are_counted(rt: HostRuntime) -> Result<(), Fail> {
     let alloc = rt.alloc();
-    assert!(rt; is_counted(alloc, &[8, 8], (1, 7), false, 15, 162)?);
-    assert!(rt; is_counted(alloc, &[4, 4, 4, 4], (3, 3), false, 15, 2500)?);
+    assert!(rt; has_expected_step_counts(alloc, &[8, 8], (1, 7), false, 15, 162)?);
+    assert!(rt; has_expected_step_counts(alloc, &[4, 4, 4, 4], (3, 3), false, 15, 2500)?);
     Ok(())
 }
 
-// The same branches. All their events are true, and one more runs after them.
+// Two branches of eight and four of four, and one more event after them. All their events are true.
 #[test]
 fn steps_after_the_branches_are_counted(rt: HostRuntime) -> Result<(), Fail> {
     let alloc = rt.alloc();
-    assert!(rt; is_counted(alloc, &[8, 8], NONE, true, 16, 163)?);
-    assert!(rt; is_counted(alloc, &[4, 4, 4, 4], NONE, true, 16, 2501)?);
+    assert!(rt; has_expected_step_counts(alloc, &[8, 8], NONE, true, 16, 163)?);
+    assert!(rt; has_expected_step_counts(alloc, &[4, 4, 4, 4], NONE, true, 16, 2501)?);
     Ok(())
 }
 

@@ -1,6 +1,6 @@
 //! The parts of a well-typed model, and its calls.
 
-use crate::support::{COUNTER, REGISTRY, typed_of};
+use crate::support::{COUNTER, REGISTRY, typed_model_of_text};
 use pst_eval::{Callbacks, Plain};
 use pst_model::Typed;
 use pst_typing::{model_name, operation_name, operation_parameters, operation_result};
@@ -27,7 +27,7 @@ fn operation_answer(alloc: Global, typed: &Typed, number: u32) -> Result<String,
 #[test]
 fn operations_of_the_registry(rt: HostRuntime) -> Result<(), Fail> {
     let alloc = rt.alloc();
-    let typed = typed_of(alloc, REGISTRY).ok_or("no model")?;
+    let typed = typed_model_of_text(alloc, REGISTRY).ok_or("no model")?;
     assert_eq!(rt; model_name(&typed).as_str(), "registry");
     let rows: [(u32, &str); 4] = [
         (0, "new 0 Int"),
@@ -62,7 +62,7 @@ fn calls_answer(alloc: Global, typed: &Typed) -> Result<String, AllocError> {
 #[test]
 fn calls_of_the_counter(rt: HostRuntime) -> Result<(), Fail> {
     let alloc = rt.alloc();
-    let typed = typed_of(alloc, COUNTER).ok_or("no model")?;
+    let typed = typed_model_of_text(alloc, COUNTER).ok_or("no model")?;
     assert_eq!(rt; calls_answer(alloc, &typed)?.as_str(), "2 1000000");
     Ok(())
 }

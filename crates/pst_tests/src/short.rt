@@ -6,18 +6,18 @@ use std::alloc::Global;
 
 /// A writer that takes `room` bytes, one at a time, and then fails.
 #[derive(Drop)]
-pub struct Short {
+pub struct LimitedSink {
     pub bytes: Vec<u8>,
     pub room: usize,
     pub failed: bool,
 }
 
-impl Short {
+impl LimitedSink {
     /// Returns a writer that fails after `room` bytes.
-    pub fn new(alloc: Global, room: usize) -> Short
+    pub fn new(alloc: Global, room: usize) -> LimitedSink
         ensures { result.failed ≡ false }
     {
-        Short {
+        LimitedSink {
             bytes: Vec::new(alloc),
             room,
             failed: false,
@@ -25,7 +25,7 @@ impl Short {
     }
 }
 
-impl Sink for Short {
+impl Sink for LimitedSink {
     ghost taken = { λ short. Some short.bytes.items };
 
     ghost broken = { λ short. short.failed };

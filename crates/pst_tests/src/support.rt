@@ -51,7 +51,7 @@ pub const SAYING: &str = "(model say (state int) (init 0)
   (op inc () text (pre true) (next s) (post true)))";
 
 /// The well-typed model that a text begins with.
-pub fn typed_of(alloc: Global, text: &str) -> Option<Typed> {
+pub fn typed_model_of_text(alloc: Global, text: &str) -> Option<Typed> {
     let file = load(alloc, text.as_bytes()).ok()?.ok()?;
     Some(file.typed)
 }

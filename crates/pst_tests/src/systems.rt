@@ -66,18 +66,18 @@ impl System for NoGet {
 
 /// A system that answers 0 to every call, and refuses every reset after the first `left`.
 #[derive(Drop)]
-pub struct Resets {
+pub struct LimitedResets {
     left: u32,
 }
 
-impl Resets {
+impl LimitedResets {
     /// Returns a system that can be reset `left` times.
-    pub fn new(left: u32) -> Resets {
-        Resets { left }
+    pub fn new(left: u32) -> LimitedResets {
+        LimitedResets { left }
     }
 }
 
-impl System for Resets {
+impl System for LimitedResets {
     ghost use Rattle.std.specs.Prelude.{⊤};
 
     ghost answers = { λ _ _ _. ⊤ };

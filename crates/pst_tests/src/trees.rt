@@ -1,14 +1,14 @@
 //! Trees that are written.
 
-use crate::short::Short;
+use crate::short::LimitedSink;
 use pst_sexpr::{Form, Out, Sink, Tree, put_all, put_each, read, write};
 use pst_value::Text;
 use std::alloc::{AllocError, Global};
 use std::test::Fail;
 
 /// Whether a tree is written to a sink as far as it has room, and the sink has failed if that is not the whole.
-fn is_written_so_far(alloc: Global, tree: &Tree, written: &[u8], room: usize) -> bool {
-    let mut sink = Short::new(alloc, room);
+fn is_tree_cut_at_room(alloc: Global, tree: &Tree, written: &[u8], room: usize) -> bool {
+    let mut sink = LimitedSink::new(alloc, room);
     let is_whole = write(tree, &mut sink).is_ok();
     is_whole == (room >= written.len())
         && sink.has_failed() == !is_whole
@@ -26,7 +26,7 @@ fn writes_what_it_read(rt: HostRuntime) {
         panic!(rt; "not one tree");
     };
     for room in 0..=written.len() {
-        assert!(rt; is_written_so_far(rt.alloc(), tree, written, room));
+        assert!(rt; is_tree_cut_at_room(rt.alloc(), tree, written, room));
     }
 }
 

@@ -2,8 +2,8 @@
 ghost use Rattle.std.specs.Prelude.{IfSome};
 ghost use Rattle.pst_runs.specs.Lawful.{AreLawful};
 
-use crate::short::Short;
-use crate::support::{COUNTER, typed_of};
+use crate::short::LimitedSink;
+use crate::support::{COUNTER, typed_model_of_text};
 use pst_case::Run;
 use pst_model::Typed;
 use pst_runs::{WriteFault, read_runs, write_runs};
@@ -20,10 +20,16 @@ fn runs_of(alloc: Global, typed: &Typed, text: &str) -> Option<Vec<Run>>
 }
 
 /// Whether runs are written to a writer as far as it has room, and it has failed if that is not the whole.
-fn is_written_so_far(alloc: Global, typed: &Typed, runs: &[Run], text: &[u8], room: usize) -> bool
+fn is_run_text_cut_at_room(
+    alloc: Global,
+    typed: &Typed,
+    runs: &[Run],
+    text: &[u8],
+    room: usize,
+) -> bool
     requires { AreLawful typed.now runs.now }
 {
-    let mut sink = Short::new(alloc, room);
+    let mut sink = LimitedSink::new(alloc, room);
     let is_right = match write_runs(alloc, typed, runs, &mut sink) {
         Ok(()) => room >= text.len() && !sink.failed,
         Err(WriteFault::WriteFailed) => room < text.len() && sink.failed,
@@ -37,12 +43,12 @@ fn writer_fails_after_each_byte(rt: HostRuntime) -> Result<(), Fail> {
     let alloc = rt.alloc();
     let text =
         "(case (prefix (inc)) (left) (right))\n(run (prefix) (left (inc)) (right) (replies () (1) ()))\n";
-    let typed = typed_of(alloc, COUNTER).ok_or("no model")?;
+    let typed = typed_model_of_text(alloc, COUNTER).ok_or("no model")?;
     let Some(runs) = runs_of(alloc, &typed, text) else {
         panic!(rt; "no runs");
     };
     for room in 0..=text.len() {
-        assert!(rt; is_written_so_far(alloc, &typed, runs.as_slice(), text.as_bytes(), room));
+        assert!(rt; is_run_text_cut_at_room(alloc, &typed, runs.as_slice(), text.as_bytes(), room));
     }
     Ok(())
 }

@@ -51,7 +51,7 @@ fn put(alloc: Global, arg: Value) -> Result<RealCall, AllocError> {
 }
 
 /// The answers to one reset and then `calls` calls, each after a space.
-fn answers<H: Wait + Files + Send + Sync + Drop>(
+fn answers_to_reset_and_calls<H: Wait + Files + Send + Sync + Drop>(
     alloc: Global,
     clients: &mut KnownClients<'_, H>,
     calls: u32,
@@ -72,7 +72,7 @@ fn lines_answer_in_turn(rt: HostRuntime) -> Result<(), Fail> {
     let alloc = rt.alloc();
     let notes = Arc::new(alloc, Notes::new(alloc)?)?;
     let lines = "true\n7\nfailed: no\nhello\n[1,\"a\"]\n";
-    let text = answers(alloc, &mut one_client(rt, alloc, &notes, lines)?, 5)?;
+    let text = answers_to_reset_and_calls(alloc, &mut one_client(rt, alloc, &notes, lines)?, 5)?;
     let wanted =
         " Ok(()) Ok(Int(7)) Err(Refused) Err(Refused) Ok(List(Items { items: [Int(1), Text(Text { text: \"a\" })] })) Err(Refused)";
     assert_eq!(rt; text.as_str(), wanted);
@@ -84,7 +84,7 @@ fn notes_say_what_went_wrong(rt: HostRuntime) -> Result<(), Fail> {
     let alloc = rt.alloc();
     let notes = Arc::new(alloc, Notes::new(alloc)?)?;
     let lines = "true\nfailed: no\nhello\nhello\nnull\n[1,\"a\"]\n";
-    let _ = answers(alloc, &mut one_client(rt, alloc, &notes, lines)?, 6)?;
+    let _ = answers_to_reset_and_calls(alloc, &mut one_client(rt, alloc, &notes, lines)?, 6)?;
     let wanted = "client 1-1: [\"put\",1] was not answered: the client has gone
 client 1-1: [\"put\",1] was answered with failed: no
 client 1-1: [\"put\",1] was answered with something that is not a value: hello
@@ -117,9 +117,9 @@ fn a_client_is_started_again_by_a_reset(rt: HostRuntime) -> Result<(), Fail> {
     let notes = Arc::new(alloc, Notes::new(alloc)?)?;
     let lines = "\x18ended 1\n\x18started\ntrue\n7\n12\x18ended 2\n\x18started\ntrue\n8\n";
     let mut clients = one_client(rt, alloc, &notes, lines)?;
-    let before = answers(alloc, &mut clients, 3)?;
-    let behind = answers(alloc, &mut clients, 1)?;
-    let text = format!(in alloc; "{before}{behind}")?;
+    let before = answers_to_reset_and_calls(alloc, &mut clients, 3)?;
+    let after = answers_to_reset_and_calls(alloc, &mut clients, 1)?;
+    let text = format!(in alloc; "{before}{after}")?;
     let wanted = " Ok(()) Ok(Int(7)) Err(Refused) Err(Refused) Ok(()) Ok(Int(8))";
     assert_eq!(rt; text.as_str(), wanted);
     Ok(())
@@ -140,7 +140,7 @@ fn a_reset_fails_after_a_line_too_many(rt: HostRuntime) -> Result<(), Fail> {
     let mut clients = client_at(rt, alloc, &notes, client)?;
     let mut text = String::new(alloc);
     for calls in [1u32, 0, 1, 0, 0, 0] {
-        text.push_str(answers(alloc, &mut clients, calls)?.as_str())?;
+        text.push_str(answers_to_reset_and_calls(alloc, &mut clients, calls)?.as_str())?;
     }
     let wanted = " Ok(()) Ok(Int(7)) Err(Refused) Ok(()) Ok(Int(8)) Err(Refused) Ok(()) Ok(())";
     assert_eq!(rt; text.as_str(), wanted);
@@ -172,7 +172,7 @@ fn the_last_line_and_failed_resets_are_known(rt: HostRuntime) -> Result<(), Fail
 }
 
 /// The map from -2 to one value and from 3 to another.
-fn map_of(alloc: Global, first: Value, second: Value) -> Result<Value, AllocError> {
+fn map_of_two_values(alloc: Global, first: Value, second: Value) -> Result<Value, AllocError> {
     let mut keys = Items::new(alloc);
     keys.push(Key::Int(-2))?;
     keys.push(Key::Int(3))?;
@@ -186,7 +186,7 @@ fn map_of(alloc: Global, first: Value, second: Value) -> Result<Value, AllocErro
 fn a_call_is_a_line_of_json(rt: HostRuntime) -> Result<(), Fail> {
     let alloc = rt.alloc();
     let quoted = Text::from_string(String::from_str(alloc, "a \"b\" \\")?);
-    let map = map_of(alloc, Value::Text(quoted), Value::List(Items::new(alloc)))?;
+    let map = map_of_two_values(alloc, Value::Text(quoted), Value::List(Items::new(alloc)))?;
     let line = client_call_line(alloc, &put(alloc, map)?)?;
     let text = std::str::from_utf8(line.as_slice()).unwrap_or("");
     assert_eq!(rt; text, "[\"put\",{\"-2\":\"a \\\"b\\\" \\\\\",\"3\":[]}]\n");
@@ -197,14 +197,14 @@ fn a_call_is_a_line_of_json(rt: HostRuntime) -> Result<(), Fail> {
 fn a_map_is_read_with_its_keys_in_any_order(rt: HostRuntime) -> Result<(), Fail> {
     let alloc = rt.alloc();
     let ty = Ty::Map(KeyTy::Int, Boxed::new(alloc, Ty::Int)?);
-    let wanted = ClientAnswer::Value(map_of(alloc, Value::Int(1), Value::Int(0))?);
+    let wanted = ClientAnswer::Value(map_of_two_values(alloc, Value::Int(1), Value::Int(0))?);
     let read = client_answer_of_line(alloc, Some(&ty), " {\"3\":0, \"-2\":1}\r")?;
     assert!(rt; read == wanted);
     Ok(())
 }
 
 /// The letters of what lines are at the type `int`: `v` for a value, `f` for failed, `n` for no value.
-fn letters(alloc: Global, lines: &[&str]) -> Result<String, AllocError> {
+fn answer_kind_letters(alloc: Global, lines: &[&str]) -> Result<String, AllocError> {
     let mut letters = String::new(alloc);
     for line in lines {
         letters.push(match client_answer_of_line(alloc, Some(&Ty::Int), line)? {
@@ -232,6 +232,9 @@ fn what_is_no_value_is_told_from_values(rt: HostRuntime) -> Result<(), Fail> {
         "failed",
         "failed: why",
     ];
-    assert_eq!(rt; letters(rt.alloc(), &lines)?.as_str(), "nnnnnnnnvvff");
+    assert_eq!(rt;
+        answer_kind_letters(rt.alloc(), &lines)?.as_str(),
+        "nnnnnnnnvvff"
+    );
     Ok(())
 }

@@ -2,7 +2,7 @@
 ghost use Rattle.std.specs.Prelude.{◌≡◌};
 
 use crate::echo::Echo;
-use crate::hostile::{Flags, Odd};
+use crate::hostile::{CountedOddAnswers, MeetingFlags};
 use pst_case::{Case, History, Run, shape};
 use pst_driver::{DriveFault, run};
 use pst_eval::Plain;
@@ -11,7 +11,7 @@ use pst_model::Typed;
 use pst_runs::read_runs;
 use pst_sexpr::read;
 use pst_system::BoxedSystem;
-use pst_tests::support::{COUNTER, MEETING, SAYING, typed_of};
+use pst_tests::support::{COUNTER, MEETING, SAYING, typed_model_of_text};
 use pst_tests::systems::{Liar, NoGet};
 use std::alloc::Global;
 use std::sync::Wait;
@@ -68,14 +68,14 @@ fn case_has_replies<R: Threads + Wait>(
 }
 
 /// Whether the case of a run, driven on the system, has the replies of the run. `None` if there is no run.
-pub fn is_driven_so<R: Threads + Wait>(
+pub fn has_replies_of_run<R: Threads + Wait>(
     rt: &R,
     alloc: Global,
     model: &str,
     item: &str,
     system: &mut BoxedSystem,
 ) -> Option<bool> {
-    let typed = typed_of(alloc, model)?;
+    let typed = typed_model_of_text(alloc, model)?;
     let Run { shaped, history } = run_of(alloc, &typed, item)?;
     let wanted = history?;
     Some(case_has_replies(rt, alloc, &typed, system, shaped.into_case(), &wanted))
@@ -84,28 +84,28 @@ pub fn is_driven_so<R: Threads + Wait>(
 #[test]
 fn meet_needs_two_threads(rt: HostRuntime) -> Result<(), Fail> {
     let alloc = rt.alloc();
-    let mut flags: BoxedSystem = Box::new(alloc, Flags::new(true, 10_000_000))?;
+    let mut flags: BoxedSystem = Box::new(alloc, MeetingFlags::new(true, 10_000_000))?;
     let item = "(run (prefix) (left (meet 1)) (right (meet 2)) (replies () (true) (true)))";
-    assert!(rt; is_driven_so(&rt, alloc, MEETING, item, &mut flags) == Some(true));
+    assert!(rt; has_replies_of_run(&rt, alloc, MEETING, item, &mut flags) == Some(true));
     Ok(())
 }
 
 #[test]
 fn three_meet_on_three_threads(rt: HostRuntime) -> Result<(), Fail> {
     let alloc = rt.alloc();
-    let mut flags: BoxedSystem = Box::new(alloc, Flags::new(false, 10_000_000))?;
+    let mut flags: BoxedSystem = Box::new(alloc, MeetingFlags::new(false, 10_000_000))?;
     let item =
         "(run (prefix) (branches ((meet 1)) ((meet 2)) ((meet 3))) (replies () (true) (true) (true)))";
-    assert!(rt; is_driven_so(&rt, alloc, MEETING, item, &mut flags) == Some(true));
+    assert!(rt; has_replies_of_run(&rt, alloc, MEETING, item, &mut flags) == Some(true));
     Ok(())
 }
 
 #[test]
 fn one_thread_never_meets(rt: HostRuntime) -> Result<(), Fail> {
     let alloc = rt.alloc();
-    let mut flags: BoxedSystem = Box::new(alloc, Flags::new(true, 1_000))?;
+    let mut flags: BoxedSystem = Box::new(alloc, MeetingFlags::new(true, 1_000))?;
     let item = "(run (prefix (meet 1)) (left) (right) (replies (false) () ()))";
-    assert!(rt; is_driven_so(&rt, alloc, MEETING, item, &mut flags) == Some(true));
+    assert!(rt; has_replies_of_run(&rt, alloc, MEETING, item, &mut flags) == Some(true));
     Ok(())
 }
 
@@ -115,17 +115,17 @@ fn a_liar_misfits(rt: HostRuntime) -> Result<(), Fail> {
     let mut liar: BoxedSystem = Box::new(alloc, Liar)?;
     let item =
         "(run (prefix (inc) (get)) (left (get)) (right) (replies (misfit not-run) (not-run) ()))";
-    assert!(rt; is_driven_so(&rt, alloc, COUNTER, item, &mut liar) == Some(true));
+    assert!(rt; has_replies_of_run(&rt, alloc, COUNTER, item, &mut liar) == Some(true));
     Ok(())
 }
 
 #[test]
-fn no_suffix_is_run_behind_a_misfit(rt: HostRuntime) -> Result<(), Fail> {
+fn no_suffix_runs_after_a_misfit(rt: HostRuntime) -> Result<(), Fail> {
     let alloc = rt.alloc();
     let mut liar: BoxedSystem = Box::new(alloc, Liar)?;
     let item =
         "(run (prefix) (left (inc)) (right) (suffix (get)) (replies () (misfit) () (not-run)))";
-    assert!(rt; is_driven_so(&rt, alloc, COUNTER, item, &mut liar) == Some(true));
+    assert!(rt; has_replies_of_run(&rt, alloc, COUNTER, item, &mut liar) == Some(true));
     Ok(())
 }
 
@@ -137,7 +137,7 @@ fn a_refused_call_ends_its_branch(rt: HostRuntime) -> Result<(), Fail> {
         "(run (prefix (inc)) (left (get) (inc)) (right (inc)) (replies (1) (failed not-run) (2)))";
     // driven twice, since each drive resets the system
     for _ in 0..2u8 {
-        assert!(rt; is_driven_so(&rt, alloc, COUNTER, item, &mut no_get) == Some(true));
+        assert!(rt; has_replies_of_run(&rt, alloc, COUNTER, item, &mut no_get) == Some(true));
     }
     Ok(())
 }
@@ -145,10 +145,10 @@ fn a_refused_call_ends_its_branch(rt: HostRuntime) -> Result<(), Fail> {
 #[test]
 fn odd_answers_misfit(rt: HostRuntime) -> Result<(), Fail> {
     let alloc = rt.alloc();
-    let mut odd: BoxedSystem = Box::new(alloc, Odd::new(alloc))?;
+    let mut odd: BoxedSystem = Box::new(alloc, CountedOddAnswers::new(alloc))?;
     let item = "(run (prefix (inc)) (left) (right) (replies (misfit) () ()))";
     for model in [COUNTER, COUNTER, SAYING] {
-        assert!(rt; is_driven_so(&rt, alloc, model, item, &mut odd) == Some(true));
+        assert!(rt; has_replies_of_run(&rt, alloc, model, item, &mut odd) == Some(true));
     }
     Ok(())
 }
@@ -161,7 +161,7 @@ fn maps_are_driven(rt: HostRuntime) -> Result<(), Fail> {
     let item = "(run (prefix (number 7) (number 9) (values (map (1 $2) (2 $1))))
       (left (table (map (\"a\" 1) (\"b\" 2)))) (right (other (map (true 1))))
       (replies (7 9 (map (1 9) (2 7))) ((map (\"a\" 1) (\"b\" 2))) (misfit)))";
-    assert!(rt; is_driven_so(&rt, alloc, ECHOING, item, &mut echo) == Some(true));
+    assert!(rt; has_replies_of_run(&rt, alloc, ECHOING, item, &mut echo) == Some(true));
     Ok(())
 }
 
@@ -173,7 +173,7 @@ fn a_branch_uses_its_own_results(rt: HostRuntime) -> Result<(), Fail> {
     let mut echo: BoxedSystem = Box::new(alloc, Echo::new(alloc))?;
     let item = "(run (prefix) (left (number 5)) (right (number 7) (values (map (1 $2))))
       (replies () (5) (7 (map (1 7)))))";
-    assert!(rt; is_driven_so(&rt, alloc, ECHOING, item, &mut echo) == Some(true));
+    assert!(rt; has_replies_of_run(&rt, alloc, ECHOING, item, &mut echo) == Some(true));
     Ok(())
 }
 

@@ -21,7 +21,7 @@ fn meets_both(own: &AtomicBool, one: &AtomicBool, other: &AtomicBool, looks: u32
 /// Three flags, or two and a third that is always raised. `meet n`, n from 1 to 3, raises flag n, looks for both other
 /// flags, yielding, and answers whether it saw them.
 #[derive(Drop)]
-pub struct Flags {
+pub struct MeetingFlags {
     first: AtomicBool,
     second: AtomicBool,
     third: AtomicBool,
@@ -29,10 +29,10 @@ pub struct Flags {
     looks: u32,
 }
 
-impl Flags {
+impl MeetingFlags {
     /// Flags that are not raised. `meet` looks for the other flags at most `looks` times.
-    pub fn new(are_two: bool, looks: u32) -> Flags {
-        Flags {
+    pub fn new(are_two: bool, looks: u32) -> MeetingFlags {
+        MeetingFlags {
             first: AtomicBool::new(false),
             second: AtomicBool::new(false),
             third: AtomicBool::new(are_two),
@@ -42,7 +42,7 @@ impl Flags {
     }
 }
 
-impl System for Flags {
+impl System for MeetingFlags {
     ghost use Rattle.std.specs.Prelude.{⊤};
 
     ghost answers = { λ _ _ _. ⊤ };
@@ -71,15 +71,15 @@ impl System for Flags {
 
 /// Answers, counting on over resets, variable 1, then a reference to 1, then a text of 65,537 bytes.
 #[derive(Drop)]
-pub struct Odd {
+pub struct CountedOddAnswers {
     alloc: Global,
     calls: AtomicU64,
 }
 
-impl Odd {
+impl CountedOddAnswers {
     /// No call was made.
-    pub fn new(alloc: Global) -> Odd {
-        Odd {
+    pub fn new(alloc: Global) -> CountedOddAnswers {
+        CountedOddAnswers {
             alloc,
             calls: AtomicU64::new(0),
         }
@@ -103,7 +103,7 @@ fn odd_answer(alloc: Global, number: u64) -> Result<Value, AllocError> {
     }
 }
 
-impl System for Odd {
+impl System for CountedOddAnswers {
     ghost use Rattle.std.specs.Prelude.{⊤};
 
     ghost answers = { λ _ _ _. ⊤ };

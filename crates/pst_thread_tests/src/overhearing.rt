@@ -1,7 +1,7 @@
-//! Systems that are overheard.
+//! Systems whose misfits are recorded.
 
-use crate::driving::is_driven_so;
-use crate::hostile::Odd;
+use crate::driving::has_replies_of_run;
+use crate::hostile::CountedOddAnswers;
 use pst_driver::{MOST_KEPT, MisfitRecorder, Misfits, misfit_lines_text};
 use pst_system::BoxedSystem;
 use pst_tests::support::{COUNTER, SAYING};
@@ -32,7 +32,7 @@ fn eight_misfits_are_kept(rt: HostRuntime) -> Result<(), Fail> {
     let misfits = misfits_over(alloc, COUNTER)?;
     let mut liar: BoxedSystem = Box::new(alloc, MisfitRecorder::new(Liar, Some(misfits.clone()?)))?;
     for _ in 0..5u8 {
-        assert!(rt; is_driven_so(&rt, alloc, COUNTER, TWO_MISFITS, &mut liar) == Some(true));
+        assert!(rt; has_replies_of_run(&rt, alloc, COUNTER, TWO_MISFITS, &mut liar) == Some(true));
     }
     assert_eq!(rt; misfits.count(), 10);
     let text = misfit_lines_text(alloc, &misfits)?;
@@ -50,11 +50,11 @@ fn odd_answers_are_spelled(rt: HostRuntime) -> Result<(), Fail> {
     let misfits = misfits_over(alloc, SAYING)?;
     let mut odd: BoxedSystem = Box::new(
         alloc,
-        MisfitRecorder::new(Odd::new(alloc), Some(misfits.clone()?)),
+        MisfitRecorder::new(CountedOddAnswers::new(alloc), Some(misfits.clone()?)),
     )?;
     let item = "(run (prefix (inc)) (left) (right) (replies (misfit) () ()))";
     for _ in 0..3u8 {
-        assert!(rt; is_driven_so(&rt, alloc, SAYING, item, &mut odd) == Some(true));
+        assert!(rt; has_replies_of_run(&rt, alloc, SAYING, item, &mut odd) == Some(true));
     }
     let text = misfit_lines_text(alloc, &misfits)?;
     let wanted = "misfit: (inc) answered $1, wanted text\n\
@@ -77,7 +77,7 @@ fn what_fits_is_not_noted(rt: HostRuntime) -> Result<(), Fail> {
         "(run (prefix (inc)) (left (get) (inc)) (right (inc)) (replies (1) (failed not-run) (2)))";
     // Driven twice, since each drive resets the system.
     for _ in 0..2u8 {
-        assert!(rt; is_driven_so(&rt, alloc, COUNTER, item, &mut no_get) == Some(true));
+        assert!(rt; has_replies_of_run(&rt, alloc, COUNTER, item, &mut no_get) == Some(true));
     }
     assert!(rt; misfit_lines_text(alloc, &misfits)?.is_empty());
     Ok(())
@@ -90,7 +90,7 @@ fn nothing_is_noted_without_a_model(rt: HostRuntime) -> Result<(), Fail> {
     let misfits = Arc::new(alloc, Misfits::new(alloc)?)?;
     for place in [Some(misfits.clone()?), None] {
         let mut liar: BoxedSystem = Box::new(alloc, MisfitRecorder::new(Liar, place))?;
-        assert!(rt; is_driven_so(&rt, alloc, COUNTER, TWO_MISFITS, &mut liar) == Some(true));
+        assert!(rt; has_replies_of_run(&rt, alloc, COUNTER, TWO_MISFITS, &mut liar) == Some(true));
     }
     assert_eq!(rt; misfits.count(), 0);
     Ok(())

@@ -36,7 +36,7 @@ fn written<R: Threads + Wait>(
 }
 
 /// How many rows have another status or text of `pst run` on the system.
-fn missed<R: Threads + Wait>(
+fn count_differing_rows<R: Threads + Wait>(
     rt: &R,
     alloc: Global,
     system: &mut BoxedSystem,
@@ -70,7 +70,7 @@ fn counters_are_driven(rt: HostRuntime) -> Result<(), Fail> {
             "(run (prefix) (left (meet 1)) (right) (replies () (failed) ()))\n1 broken 1\n",
         ),
     ];
-    assert!(rt; missed(&rt, alloc, &mut counter, &rows)? == 0);
+    assert!(rt; count_differing_rows(&rt, alloc, &mut counter, &rows)? == 0);
     Ok(())
 }
 
@@ -84,7 +84,7 @@ fn a_stuck_counter_is_driven(rt: HostRuntime) -> Result<(), Fail> {
         Status::Failed,
         "(run (prefix (inc)) (left) (right) (replies (0) () ()))\n1 unexplained far 0\n",
     )];
-    assert!(rt; missed(&rt, alloc, &mut stuck, &rows)? == 0);
+    assert!(rt; count_differing_rows(&rt, alloc, &mut stuck, &rows)? == 0);
     Ok(())
 }
 
@@ -113,7 +113,7 @@ fn registries_are_driven(rt: HostRuntime) -> Result<(), Fail> {
             "(run (prefix (new)) (left) (right) (replies (0) () ()))\n1 explained -\n",
         ),
     ];
-    assert!(rt; missed(&rt, alloc, &mut registry, &rows)? == 0);
+    assert!(rt; count_differing_rows(&rt, alloc, &mut registry, &rows)? == 0);
     Ok(())
 }
 
@@ -136,7 +136,7 @@ fn queues_are_driven(rt: HostRuntime) -> Result<(), Fail> {
             "(run (prefix (take)) (left) (right) (replies ((list)) () ()))\n1 explained -\n",
         ),
     ];
-    assert!(rt; missed(&rt, alloc, &mut queue, &rows)? == 0);
+    assert!(rt; count_differing_rows(&rt, alloc, &mut queue, &rows)? == 0);
     Ok(())
 }
 
@@ -159,7 +159,7 @@ fn callers_are_driven_at_once(rt: HostRuntime) -> Result<(), Fail> {
             "(run (prefix) (left (meet 1)) (right) (replies () (false) ()))\n1 unexplained far 0\n",
         ),
     ];
-    assert!(rt; missed(&rt, alloc, &mut meet, &rows)? == 0);
+    assert!(rt; count_differing_rows(&rt, alloc, &mut meet, &rows)? == 0);
     Ok(())
 }
 

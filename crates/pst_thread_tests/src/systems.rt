@@ -18,7 +18,7 @@ fn call_of(alloc: Global, name: &str, numbers: &[i64]) -> Result<RealCall, Alloc
 }
 
 /// The system's answers to the calls in order, each after a space.
-fn answers(
+fn answers_to_calls(
     alloc: Global,
     system: &BoxedSystem,
     calls: &[(&str, &[i64])],
@@ -36,7 +36,7 @@ fn answers(
 fn a_counter_counts(rt: HostRuntime) -> Result<(), Fail> {
     let alloc = rt.alloc();
     let counter: BoxedSystem = Box::new(alloc, Counter::new(rt))?;
-    let text = answers(
+    let text = answers_to_calls(
         alloc,
         &counter,
         &[("inc", &[]), ("get", &[]), ("get", &[1])],
@@ -49,10 +49,10 @@ fn a_counter_counts(rt: HostRuntime) -> Result<(), Fail> {
 fn a_racy_counter_is_reset(rt: HostRuntime) -> Result<(), Fail> {
     let alloc = rt.alloc();
     let mut racy: BoxedSystem = Box::new(alloc, Racy::new())?;
-    let before = answers(alloc, &racy, &[("inc", &[])])?;
+    let before = answers_to_calls(alloc, &racy, &[("inc", &[])])?;
     let reset = reset_box(&mut racy);
-    let behind = answers(alloc, &racy, &[("get", &[])])?;
-    let all = format!(in alloc; "{before} {reset:?}{behind}")?;
+    let after = answers_to_calls(alloc, &racy, &[("get", &[])])?;
+    let all = format!(in alloc; "{before} {reset:?}{after}")?;
     assert_eq!(rt; all.as_str(), " Ok(Int(1)) Ok(()) Ok(Int(0))");
     Ok(())
 }
@@ -61,7 +61,7 @@ fn a_racy_counter_is_reset(rt: HostRuntime) -> Result<(), Fail> {
 fn a_stuck_counter_stays_at_0(rt: HostRuntime) -> Result<(), Fail> {
     let alloc = rt.alloc();
     let stuck: BoxedSystem = Box::new(alloc, Stuck)?;
-    let text = answers(alloc, &stuck, &[("inc", &[])])?;
+    let text = answers_to_calls(alloc, &stuck, &[("inc", &[])])?;
     assert_eq!(rt; text.as_str(), " Ok(Int(0))");
     Ok(())
 }
@@ -78,7 +78,7 @@ fn a_registry_opens_and_closes(rt: HostRuntime) -> Result<(), Fail> {
         ("read", &[0]),
         ("read", &[1]),
     ];
-    let text = answers(alloc, &registry, &calls)?;
+    let text = answers_to_calls(alloc, &registry, &calls)?;
     let wanted = " Ok(Int(0)) Ok(Int(1)) Ok(Bool(true)) Ok(Bool(false)) Ok(Int(0)) Ok(Int(-1))";
     assert_eq!(rt; text.as_str(), wanted);
     Ok(())
@@ -88,7 +88,7 @@ fn a_registry_opens_and_closes(rt: HostRuntime) -> Result<(), Fail> {
 fn a_queue_keeps_its_order(rt: HostRuntime) -> Result<(), Fail> {
     let alloc = rt.alloc();
     let queue: BoxedSystem = Box::new(alloc, Queue::new(rt, alloc))?;
-    let text = answers(
+    let text = answers_to_calls(
         alloc,
         &queue,
         &[("put", &[5]), ("put", &[6]), ("take", &[])],
@@ -123,7 +123,7 @@ fn a_queue_has_room_for_1024_items(rt: HostRuntime) -> Result<(), Fail> {
 fn a_flag_that_is_none_is_refused(rt: HostRuntime) -> Result<(), Fail> {
     let alloc = rt.alloc();
     let meet: BoxedSystem = Box::new(alloc, Meet::new())?;
-    let text = answers(alloc, &meet, &[("meet", &[3])])?;
+    let text = answers_to_calls(alloc, &meet, &[("meet", &[3])])?;
     assert_eq!(rt; text.as_str(), " Err(Refused)");
     Ok(())
 }
@@ -134,7 +134,7 @@ fn callers_meet(rt: HostRuntime) -> Result<(), Fail> {
     let flags = Arc::new(alloc, Flags::new())?;
     let pair: BoxedSystem = Box::new(alloc, Pair::new(Side::Second, flags.clone()?))?;
     let alone = flags.meet(Side::First);
-    let text = answers(alloc, &pair, &[("meet", &[1])])?;
+    let text = answers_to_calls(alloc, &pair, &[("meet", &[1])])?;
     let all = format!(in alloc; "{alone}{text}")?;
     assert_eq!(rt; all.as_str(), "false Ok(Bool(true))");
     Ok(())

@@ -27,26 +27,26 @@ fn find_declared_function<'a>(items: &'a [Item], name: &str) -> Option<&'a Fun> 
 }
 
 /// Whether argument `argument` has the type of parameter `parameter`, both counted from 0.
-fn argument_fits_parameter(
-    leaf: &BlamedPart<'_>,
+fn has_argument_type_of_parameter(
+    blamed: &BlamedPart<'_>,
     params: &[Param],
     argument: usize,
     parameter: usize,
 ) -> Result<bool, AllocError> {
-    match (leaf.kinds.get(argument), params.get(parameter)) {
-        (Some(kind), Some(param)) => kind.is(leaf.alloc, &param.ty),
+    match (blamed.kinds.get(argument), params.get(parameter)) {
+        (Some(kind), Some(param)) => kind.is(blamed.alloc, &param.ty),
         _ => Ok(false),
     }
 }
 
 /// The number of the first argument, from `from` on, that has another type than its parameter.
 fn first_ill_typed_argument(
-    leaf: &BlamedPart<'_>,
+    blamed: &BlamedPart<'_>,
     params: &[Param],
     from: usize,
 ) -> Result<Option<usize>, AllocError> {
     for place in from..params.len() {
-        if !argument_fits_parameter(leaf, params, place, place)? {
+        if !has_argument_type_of_parameter(blamed, params, place, place)? {
             return Ok(Some(place));
         }
     }
@@ -56,35 +56,35 @@ fn first_ill_typed_argument(
 /// Whether exactly two arguments do not fit, and both would fit if they were swapped. `first` is the number of the
 /// first of them.
 fn are_two_arguments_swapped(
-    leaf: &BlamedPart<'_>,
+    blamed: &BlamedPart<'_>,
     params: &[Param],
     first: usize,
 ) -> Result<bool, AllocError> {
-    let Some(second) = first_ill_typed_argument(leaf, params, first.saturating_add(1))? else {
+    let Some(second) = first_ill_typed_argument(blamed, params, first.saturating_add(1))? else {
         return Ok(false);
     };
-    if !argument_fits_parameter(leaf, params, first, second)? {
+    if !has_argument_type_of_parameter(blamed, params, first, second)? {
         return Ok(false);
     }
-    if !argument_fits_parameter(leaf, params, second, first)? {
+    if !has_argument_type_of_parameter(blamed, params, second, first)? {
         return Ok(false);
     }
-    Ok(first_ill_typed_argument(leaf, params, second.saturating_add(1))?.is_none())
+    Ok(first_ill_typed_argument(blamed, params, second.saturating_add(1))?.is_none())
 }
 
 /// The problem `refused`, with the declaration.
 fn with_declaration_note(
-    leaf: &BlamedPart<'_>,
+    blamed: &BlamedPart<'_>,
     refused: Option<Problem>,
     declared: &SignatureText<'_>,
 ) -> FoundProblem {
-    with_note(leaf.alloc, refused, format_args!("declared: {declared}"))
+    with_note(blamed.alloc, refused, format_args!("declared: {declared}"))
 }
 
 /// The problem of argument `place`, counted from 0, which has another type than its parameter. `part` is its number in
 /// the tree.
 fn argument_type_problem(
-    leaf: &BlamedPart<'_>,
+    blamed: &BlamedPart<'_>,
     declared: &SignatureText<'_>,
     place: usize,
     part: usize,
@@ -92,59 +92,62 @@ fn argument_type_problem(
     let Some(param) = declared.params.get(place) else {
         return Ok(None);
     };
-    let Some(found) = leaf.kinds.get(place) else {
+    let Some(found) = blamed.kinds.get(place) else {
         return Ok(None);
     };
-    let wanted = Kind::of(leaf.alloc, &param.ty)?;
+    let wanted = Kind::of(blamed.alloc, &param.ty)?;
     let called = param.name.as_str();
     let name = declared.name;
     let what = format_args!("the parameter {called} of `{name}`");
-    let refused = operand_type_problem(leaf, what, part, &wanted, found)?;
-    with_declaration_note(leaf, refused, declared)
+    let refused = operand_type_problem(blamed, what, part, &wanted, found)?;
+    with_declaration_note(blamed, refused, declared)
 }
 
 /// The problem of argument `place`, as [`argument_type_problem`] returns it, with a hint if two arguments would fit in the other
 /// order.
 fn argument_problem_with_order_hint(
-    leaf: &BlamedPart<'_>,
+    blamed: &BlamedPart<'_>,
     declared: &SignatureText<'_>,
     place: usize,
     part: usize,
 ) -> FoundProblem {
-    let refused = argument_type_problem(leaf, declared, place, part)?;
-    if are_two_arguments_swapped(leaf, declared.params, place)? {
+    let refused = argument_type_problem(blamed, declared, place, part)?;
+    if are_two_arguments_swapped(blamed, declared.params, place)? {
         let hint = "hint: in the other order the two arguments fit";
-        return with_note(leaf.alloc, refused, hint);
+        return with_note(blamed.alloc, refused, hint);
     }
     Ok(refused)
 }
 
 /// The problem of arguments whose number is not that of the parameters.
-fn argument_count_problem(leaf: &BlamedPart<'_>, declared: &SignatureText<'_>) -> FoundProblem {
+fn argument_count_type_problem(
+    blamed: &BlamedPart<'_>,
+    declared: &SignatureText<'_>,
+) -> FoundProblem {
     let name = declared.name;
     let takes = counted_noun(declared.params.len(), "argument");
-    let found = leaf.kinds.len();
+    let found = blamed.kinds.len();
     let refused = problem_at(
-        leaf.alloc,
-        leaf.path,
+        blamed.alloc,
+        blamed.path,
         format_args!("`{name}` takes {takes}, here it has {found}"),
     )?;
-    with_declaration_note(leaf, refused, declared)
+    with_declaration_note(blamed, refused, declared)
 }
 
 /// The problem of arguments that do not fit the parameters, if one does not. `first` is the number of the first
 /// argument in the tree.
 fn argument_count_or_type_problem(
-    leaf: &BlamedPart<'_>,
+    blamed: &BlamedPart<'_>,
     declared: &SignatureText<'_>,
     first: usize,
 ) -> FoundProblem {
-    if leaf.kinds.len() != declared.params.len() {
-        return argument_count_problem(leaf, declared);
+    if blamed.kinds.len() != declared.params.len() {
+        return argument_count_type_problem(blamed, declared);
     }
-    match first_ill_typed_argument(leaf, declared.params, 0)? {
+    match first_ill_typed_argument(blamed, declared.params, 0)? {
         Some(place) => argument_problem_with_order_hint(
-            leaf,
+            blamed,
             declared,
             place,
             first.saturating_add(place),
@@ -154,16 +157,16 @@ fn argument_count_or_type_problem(
 }
 
 /// The problem of the unknown name `name` at part `part` of the tree, with the known operations or functions.
-fn unknown_name_at_part_problem(
-    leaf: &BlamedPart<'_>,
+fn unknown_callee_problem(
+    blamed: &BlamedPart<'_>,
     part: usize,
     name: &str,
     are_operations: bool,
 ) -> FoundProblem {
-    let path = path_to_part(leaf.path, leaf.alloc, part)?;
+    let path = path_to_part(blamed.path, blamed.alloc, part)?;
     unknown_operation_or_function_problem(
-        leaf.alloc,
-        leaf.context.items,
+        blamed.alloc,
+        blamed.context.items,
         path.as_slice(),
         name,
         are_operations,
@@ -171,33 +174,33 @@ fn unknown_name_at_part_problem(
 }
 
 /// The problem of a call of an operation, if it has one.
-pub fn operation_call_type_problem(leaf: &BlamedPart<'_>) -> FoundProblem {
-    let Some(name) = word_of(tree_part_or_whole(leaf.form, 1)) else {
+pub fn operation_call_type_problem(blamed: &BlamedPart<'_>) -> FoundProblem {
+    let Some(name) = word_of(tree_part_or_whole(blamed.form, 1)) else {
         return Ok(None);
     };
     let name = name.as_str();
-    match find_operation(leaf.context.items, name) {
+    match find_operation(blamed.context.items, name) {
         Some(op) => {
             let declared = SignatureText {
                 name,
                 params: op.params.as_slice(),
                 gives: &op.result,
             };
-            argument_count_or_type_problem(leaf, &declared, 2)
+            argument_count_or_type_problem(blamed, &declared, 2)
         }
-        None => unknown_name_at_part_problem(leaf, 1, name, true),
+        None => unknown_callee_problem(blamed, 1, name, true),
     }
 }
 
 /// The problem of a function that no item declares, with a note.
 fn unknown_function_problem_with_note<N: Display + Drop>(
-    leaf: &BlamedPart<'_>,
+    blamed: &BlamedPart<'_>,
     name: &str,
     note: N,
 ) -> FoundProblem {
     problem_with_note_at_part(
-        leaf.alloc,
-        leaf.path,
+        blamed.alloc,
+        blamed.path,
         0,
         format_args!("no function has the name `{name}`"),
         note,
@@ -206,48 +209,48 @@ fn unknown_function_problem_with_note<N: Display + Drop>(
 
 /// The problem of a function that no item declares, with the known name that is probably meant, or with the known
 /// functions.
-fn unknown_function_problem_with_suggestion(leaf: &BlamedPart<'_>, name: &str) -> FoundProblem {
-    match nearest_expression_head_hint(leaf.alloc, leaf.has_maps, name)? {
-        Some(hint) => unknown_function_problem_with_note(leaf, name, hint),
-        None => unknown_name_at_part_problem(leaf, 0, name, false),
+fn unknown_function_problem_with_suggestion(blamed: &BlamedPart<'_>, name: &str) -> FoundProblem {
+    match nearest_expression_head_hint(blamed.alloc, blamed.has_maps, name)? {
+        Some(hint) => unknown_function_problem_with_note(blamed, name, hint),
+        None => unknown_callee_problem(blamed, 0, name, false),
     }
 }
 
 /// The problem of a function that no item declares.
-fn unknown_function_problem(leaf: &BlamedPart<'_>, name: &str) -> FoundProblem {
+fn unknown_function_problem(blamed: &BlamedPart<'_>, name: &str) -> FoundProblem {
     if let Some(hint) = hint_for_foreign_word(name) {
-        return unknown_function_problem_with_note(leaf, name, format_args!("hint: {hint}"));
+        return unknown_function_problem_with_note(blamed, name, format_args!("hint: {hint}"));
     }
     if is_head_of_map_form(name) {
         let hint = "hint: a model with maps begins with `(model2 NAME ..)`";
-        return unknown_function_problem_with_note(leaf, name, hint);
+        return unknown_function_problem_with_note(blamed, name, hint);
     }
-    if find_operation(leaf.context.items, name).is_some() {
+    if find_operation(blamed.context.items, name).is_some() {
         return unknown_function_problem_with_note(
-            leaf,
+            blamed,
             name,
             format_args!("hint: `{name}` is an operation: a call of it is `(call {name} ..)`"),
         );
     }
-    unknown_function_problem_with_suggestion(leaf, name)
+    unknown_function_problem_with_suggestion(blamed, name)
 }
 
 /// The problem of a declared function that may not be applied here, if it may not.
-fn inapplicable_function_problem(leaf: &BlamedPart<'_>, fun: &Fun) -> FoundProblem {
+fn inapplicable_function_problem(blamed: &BlamedPart<'_>, fun: &Fun) -> FoundProblem {
     let name = fun.name.as_str();
-    if find_declared_function(leaf.context.earlier, name).is_none() {
+    if find_declared_function(blamed.context.earlier, name).is_none() {
         return problem_with_note_at_part(
-            leaf.alloc,
-            leaf.path,
+            blamed.alloc,
+            blamed.path,
             0,
             format_args!("the function `{name}` is not declared before this item"),
             "a function can only apply functions of earlier items, so not itself",
         );
     }
-    if fun.is_post && !leaf.context.is_post {
+    if fun.is_post && !blamed.context.is_post {
         return problem_with_note_at_part(
-            leaf.alloc,
-            leaf.path,
+            blamed.alloc,
+            blamed.path,
             0,
             format_args!("the postfun `{name}` can only be applied in post and in postfuns"),
             "hint: if it has no `deref`, declare it as a `fun`",
@@ -257,17 +260,17 @@ fn inapplicable_function_problem(leaf: &BlamedPart<'_>, fun: &Fun) -> FoundProbl
 }
 
 /// The problem of an application of a function, if it has one.
-pub fn function_application_type_problem(leaf: &BlamedPart<'_>, name: &str) -> FoundProblem {
-    let Some(fun) = find_declared_function(leaf.context.items, name) else {
-        return unknown_function_problem(leaf, name);
+pub fn function_application_type_problem(blamed: &BlamedPart<'_>, name: &str) -> FoundProblem {
+    let Some(fun) = find_declared_function(blamed.context.items, name) else {
+        return unknown_function_problem(blamed, name);
     };
     let declared = SignatureText {
         name,
         params: fun.params.as_slice(),
         gives: &fun.result,
     };
-    match inapplicable_function_problem(leaf, fun)? {
+    match inapplicable_function_problem(blamed, fun)? {
         Some(found) => Ok(Some(found)),
-        None => argument_count_or_type_problem(leaf, &declared, 1),
+        None => argument_count_or_type_problem(blamed, &declared, 1),
     }
 }

@@ -6,8 +6,8 @@ use crate::lists::{
     nth_type_problem,
 };
 use crate::operands::{
-    first_operand_problem, map_wanted_problem, operand_type_problem, sequence_wanted_problem,
-    tuple_wanted_problem,
+    map_wanted_problem, operand_type_problem, sequence_wanted_problem, tuple_wanted_problem,
+    wrong_first_operand_problem,
 };
 use crate::spelling::type_text_of_kind;
 use pst_model::{Expr, Op};
@@ -39,13 +39,17 @@ pub struct BlamedPart<'a> {
 }
 
 /// The problem `found`, with the names that the part sees.
-fn with_known_names_note(leaf: &BlamedPart<'_>, found: Option<Problem>) -> FoundProblem {
-    if leaf.names.is_empty() {
-        let called = leaf.called;
-        return with_note(leaf.alloc, found, format_args!("{called} sees no names"));
+fn with_known_names_note(blamed: &BlamedPart<'_>, found: Option<Problem>) -> FoundProblem {
+    if blamed.names.is_empty() {
+        let called = blamed.called;
+        return with_note(blamed.alloc, found, format_args!("{called} sees no names"));
     }
-    let names = CommaSeparatedNames(leaf.names);
-    with_note(leaf.alloc, found, format_args!("names known here: {names}"))
+    let names = CommaSeparatedNames(blamed.names);
+    with_note(
+        blamed.alloc,
+        found,
+        format_args!("names known here: {names}"),
+    )
 }
 
 /// A hint for a name that only callbacks see, or that other languages have.
@@ -61,44 +65,48 @@ fn hint_on_special_name(name: &str) -> Option<&'static str> {
 }
 
 /// The problem of the name `name`, which nothing has here. A note lists the names that the part sees.
-fn undeclared_name_problem(leaf: &BlamedPart<'_>, name: &str) -> FoundProblem {
-    let called = leaf.called;
+fn unknown_name_problem_with_known_names(blamed: &BlamedPart<'_>, name: &str) -> FoundProblem {
+    let called = blamed.called;
     let what = format_args!("{called}: nothing has the name `{name}` here");
-    let found = problem_at(leaf.alloc, leaf.path, what)?;
-    with_known_names_note(leaf, found)
+    let found = problem_at(blamed.alloc, blamed.path, what)?;
+    with_known_names_note(blamed, found)
 }
 
 /// The problem of the name `name`, which nothing has here, with a hint.
-fn undeclared_name_problem_with_hint<N: Display + Drop>(
-    leaf: &BlamedPart<'_>,
+fn unknown_name_problem_with_hint<N: Display + Drop>(
+    blamed: &BlamedPart<'_>,
     name: &str,
     hint: N,
 ) -> FoundProblem {
-    with_note(leaf.alloc, undeclared_name_problem(leaf, name)?, hint)
+    with_note(
+        blamed.alloc,
+        unknown_name_problem_with_known_names(blamed, name)?,
+        hint,
+    )
 }
 
 /// The problem of the name of the operation `op` in the place of a call of it.
-fn operation_name_without_call_problem(leaf: &BlamedPart<'_>, op: &Op) -> FoundProblem {
+fn operation_name_without_call_problem(blamed: &BlamedPart<'_>, op: &Op) -> FoundProblem {
     let name = op.name.as_str();
     let arguments = if op.params.is_empty() { "" } else { " .." };
-    undeclared_name_problem_with_hint(
-        leaf,
+    unknown_name_problem_with_hint(
+        blamed,
         name,
         format_args!("hint: `{name}` is an operation: a call of it is `(call {name}{arguments})`"),
     )
 }
 
 /// The problem of the name `name`, which nothing has here, with a hint if there is one.
-fn unknown_name_problem(leaf: &BlamedPart<'_>, name: &str) -> FoundProblem {
+fn unknown_name_problem(blamed: &BlamedPart<'_>, name: &str) -> FoundProblem {
     if let Some(hint) = hint_on_special_name(name) {
-        return undeclared_name_problem_with_hint(leaf, name, hint);
+        return unknown_name_problem_with_hint(blamed, name, hint);
     }
-    if let Some(op) = find_operation(leaf.context.items, name) {
-        return operation_name_without_call_problem(leaf, op);
+    if let Some(op) = find_operation(blamed.context.items, name) {
+        return operation_name_without_call_problem(blamed, op);
     }
-    match nearest_known_name_hint(leaf.alloc, leaf.names, name)? {
-        Some(hint) => undeclared_name_problem_with_hint(leaf, name, hint),
-        None => undeclared_name_problem(leaf, name),
+    match nearest_known_name_hint(blamed.alloc, blamed.names, name)? {
+        Some(hint) => unknown_name_problem_with_hint(blamed, name, hint),
+        None => unknown_name_problem_with_known_names(blamed, name),
     }
 }
 
@@ -113,49 +121,59 @@ fn with_join_hint(alloc: Global, found: Option<Problem>, head: &str, kind: &Kind
 }
 
 /// The problem of the first part that has another type than `wanted`.
-fn first_ill_typed_part_problem(leaf: &BlamedPart<'_>, head: &str, wanted: &Ty) -> FoundProblem {
-    let wanted = Kind::of(leaf.alloc, wanted)?;
-    for (place, kind) in leaf.kinds.iter().enumerate() {
-        if !kind.same(leaf.alloc, &wanted)? {
+fn first_ill_typed_part_problem(blamed: &BlamedPart<'_>, head: &str, wanted: &Ty) -> FoundProblem {
+    let wanted = Kind::of(blamed.alloc, wanted)?;
+    for (place, kind) in blamed.kinds.iter().enumerate() {
+        if !kind.same(blamed.alloc, &wanted)? {
             let part = place.saturating_add(1);
-            let found = operand_type_problem(leaf, format_args!("`{head}`"), part, &wanted, kind)?;
-            return with_join_hint(leaf.alloc, found, head, kind);
+            let found = operand_type_problem(
+                blamed,
+                format_args!("`{head}`"),
+                part,
+                &wanted,
+                kind,
+            )?;
+            return with_join_hint(blamed.alloc, found, head, kind);
         }
     }
     Ok(None)
 }
 
 /// The problem of an `if`, if it has one.
-fn if_type_problem(leaf: &BlamedPart<'_>) -> FoundProblem {
-    let [test, yes, no] = leaf.kinds else {
+fn if_type_problem(blamed: &BlamedPart<'_>) -> FoundProblem {
+    let [test, yes, no] = blamed.kinds else {
         return Ok(None);
     };
-    let truth = Kind::of(leaf.alloc, &Ty::Bool)?;
-    match operand_type_problem(leaf, "the test of `if`", 1, &truth, test)? {
+    let truth = Kind::of(blamed.alloc, &Ty::Bool)?;
+    match operand_type_problem(blamed, "the test of `if`", 1, &truth, test)? {
         Some(found) => Ok(Some(found)),
-        None => operand_type_problem(leaf, "the branches of `if` differ", 3, yes, no),
+        None => operand_type_problem(blamed, "the branches of `if` differ", 3, yes, no),
     }
 }
 
 /// The problem of a comparison by order, if it has one.
 fn order_comparison_type_problem(
-    leaf: &BlamedPart<'_>,
+    blamed: &BlamedPart<'_>,
     head: &str,
     first: &Kind,
     second: &Kind,
 ) -> FoundProblem {
-    match first.form(leaf.alloc)? {
+    match first.form(blamed.alloc)? {
         KindForm::Int | KindForm::Text => {
-            operand_type_problem(leaf, format_args!("`{head}`"), 2, first, second)
+            operand_type_problem(blamed, format_args!("`{head}`"), 2, first, second)
         }
-        _ => first_operand_problem(leaf, format_args!("`{head}` compares int or text"), first),
+        _ => wrong_first_operand_problem(
+            blamed,
+            format_args!("`{head}` compares int or text"),
+            first,
+        ),
     }
 }
 
 /// The problem of a comparison by `=`, if it has one.
-fn equality_type_problem(leaf: &BlamedPart<'_>, first: &Kind, second: &Kind) -> FoundProblem {
+fn equality_type_problem(blamed: &BlamedPart<'_>, first: &Kind, second: &Kind) -> FoundProblem {
     if let Some(found) = operand_type_problem(
-        leaf,
+        blamed,
         "`=` compares values of one type",
         2,
         first,
@@ -163,44 +181,48 @@ fn equality_type_problem(leaf: &BlamedPart<'_>, first: &Kind, second: &Kind) -> 
     )? {
         return Ok(Some(found));
     }
-    if !first.holds_ref(leaf.alloc)? {
+    if !first.holds_ref(blamed.alloc)? {
         return Ok(None);
     }
-    let found = type_text_of_kind(leaf.alloc, first)?;
+    let found = type_text_of_kind(blamed.alloc, first)?;
     problem_with_note(
-        leaf.alloc,
-        leaf.path,
+        blamed.alloc,
+        blamed.path,
         format_args!("`=` cannot compare references outside post, found {found}"),
         "hint: `(same a b)` says whether two references are of one command",
     )
 }
 
 /// The problem of a `same`, if it has one.
-fn same_operator_type_problem(leaf: &BlamedPart<'_>, first: &Kind, second: &Kind) -> FoundProblem {
-    match first.form(leaf.alloc)? {
+fn same_operator_type_problem(
+    blamed: &BlamedPart<'_>,
+    first: &Kind,
+    second: &Kind,
+) -> FoundProblem {
+    match first.form(blamed.alloc)? {
         KindForm::Ref(_) => operand_type_problem(
-            leaf,
+            blamed,
             "`same` compares references of one type",
             2,
             first,
             second,
         ),
-        _ => first_operand_problem(leaf, "`same` compares references", first),
+        _ => wrong_first_operand_problem(blamed, "`same` compares references", first),
     }
 }
 
 /// The problem of a `deref`, if it has one.
-fn deref_type_problem(leaf: &BlamedPart<'_>) -> FoundProblem {
-    if !leaf.context.is_post {
+fn deref_type_problem(blamed: &BlamedPart<'_>) -> FoundProblem {
+    if !blamed.context.is_post {
         return problem_with_note(
-            leaf.alloc,
-            leaf.path,
+            blamed.alloc,
+            blamed.path,
             "`deref` is only allowed in post and in postfuns",
             "hint: elsewhere the value of a result is not known yet; keep the reference",
         );
     }
-    match leaf.kinds.first() {
-        Some(found) => first_operand_problem(leaf, "`deref` takes a reference", found),
+    match blamed.kinds.first() {
+        Some(found) => wrong_first_operand_problem(blamed, "`deref` takes a reference", found),
         None => Ok(None),
     }
 }
@@ -208,140 +230,142 @@ fn deref_type_problem(leaf: &BlamedPart<'_>) -> FoundProblem {
 /// The problem of a `++` of a list of the kind `list` and something else, if it has one, with a hint if that
 /// is an item.
 fn list_join_type_problem(
-    leaf: &BlamedPart<'_>,
+    blamed: &BlamedPart<'_>,
     list: &Kind,
     item: &Kind,
     other: &Kind,
 ) -> FoundProblem {
-    let refused = operand_type_problem(leaf, "`++` joins values of one type", 2, list, other)?;
-    if !item.same(leaf.alloc, other)? {
+    let refused = operand_type_problem(blamed, "`++` joins values of one type", 2, list, other)?;
+    if !item.same(blamed.alloc, other)? {
         return Ok(refused);
     }
-    let shown = type_text_of_kind(leaf.alloc, item)?;
+    let shown = type_text_of_kind(blamed.alloc, item)?;
     let hint = format_args!("hint: a list of one item is `(list {shown} x)`");
-    with_note(leaf.alloc, refused, hint)
+    with_note(blamed.alloc, refused, hint)
 }
 
 /// The problem of a `len` or a `++`, if it has one.
-fn sequence_type_problem(leaf: &BlamedPart<'_>, head: &str) -> FoundProblem {
-    let Some(first) = leaf.kinds.first() else {
+fn sequence_type_problem(blamed: &BlamedPart<'_>, head: &str) -> FoundProblem {
+    let Some(first) = blamed.kinds.first() else {
         return Ok(None);
     };
-    match (first.form(leaf.alloc)?, leaf.kinds.get(1)) {
+    match (first.form(blamed.alloc)?, blamed.kinds.get(1)) {
         (KindForm::Text, Some(second)) => {
-            operand_type_problem(leaf, "`++` joins values of one type", 2, first, second)
+            operand_type_problem(blamed, "`++` joins values of one type", 2, first, second)
         }
-        (KindForm::List(item), Some(second)) => list_join_type_problem(leaf, first, &item, second),
-        _ => sequence_wanted_problem(leaf, head, first),
+        (KindForm::List(item), Some(second)) => list_join_type_problem(
+            blamed, first, &item, second,
+        ),
+        _ => sequence_wanted_problem(blamed, head, first),
     }
 }
 
 /// The problem of an `at`, if it has one.
-fn tuple_access_type_problem(leaf: &BlamedPart<'_>) -> FoundProblem {
-    let Some(found) = leaf.kinds.first() else {
+fn tuple_access_type_problem(blamed: &BlamedPart<'_>) -> FoundProblem {
+    let Some(found) = blamed.kinds.first() else {
         return Ok(None);
     };
-    let KindForm::Tuple(items) = found.form(leaf.alloc)? else {
-        return tuple_wanted_problem(leaf, found);
+    let KindForm::Tuple(items) = found.form(blamed.alloc)? else {
+        return tuple_wanted_problem(blamed, found);
     };
     let number = items.len();
-    let shown = type_text_of_kind(leaf.alloc, found)?;
+    let shown = type_text_of_kind(blamed.alloc, found)?;
     let what = format_args!("the tuple has {number} items: {shown}");
-    problem_at_part(leaf.alloc, leaf.path, 2, what)
+    problem_at_part(blamed.alloc, blamed.path, 2, what)
 }
 
 /// The problem of a key of another type than the keys of the map, if it has one.
-fn map_key_type_problem(leaf: &BlamedPart<'_>, keys: KeyTy) -> FoundProblem {
-    let Some(found) = leaf.kinds.get(1) else {
+fn map_key_type_problem(blamed: &BlamedPart<'_>, keys: KeyTy) -> FoundProblem {
+    let Some(found) = blamed.kinds.get(1) else {
         return Ok(None);
     };
-    let wanted = Kind::of(leaf.alloc, &key_type(keys))?;
+    let wanted = Kind::of(blamed.alloc, &key_type(keys))?;
     let word = key_type_word(keys);
     let what = format_args!("the keys of the map are {word}");
-    operand_type_problem(leaf, what, 2, &wanted, found)
+    operand_type_problem(blamed, what, 2, &wanted, found)
 }
 
 /// The problem of a key or a value of another type than those of the map, if there is one.
-fn map_entry_type_problem(leaf: &BlamedPart<'_>, keys: KeyTy, value: &Kind) -> FoundProblem {
-    if let Some(found) = map_key_type_problem(leaf, keys)? {
+fn map_entry_type_problem(blamed: &BlamedPart<'_>, keys: KeyTy, value: &Kind) -> FoundProblem {
+    if let Some(found) = map_key_type_problem(blamed, keys)? {
         return Ok(Some(found));
     }
-    match leaf.kinds.get(2) {
-        Some(found) => operand_type_problem(leaf, "the values of the map", 3, value, found),
+    match blamed.kinds.get(2) {
+        Some(found) => operand_type_problem(blamed, "the values of the map", 3, value, found),
         None => Ok(None),
     }
 }
 
 /// The problem of a form of maps, if it has one.
-fn map_form_type_problem(leaf: &BlamedPart<'_>, head: &str) -> FoundProblem {
-    let Some(map) = leaf.kinds.first() else {
+fn map_form_type_problem(blamed: &BlamedPart<'_>, head: &str) -> FoundProblem {
+    let Some(map) = blamed.kinds.first() else {
         return Ok(None);
     };
-    match map.form(leaf.alloc)? {
-        KindForm::Map(keys, value) => map_entry_type_problem(leaf, keys, &value),
-        _ => map_wanted_problem(leaf, head, map),
+    match map.form(blamed.alloc)? {
+        KindForm::Map(keys, value) => map_entry_type_problem(blamed, keys, &value),
+        _ => map_wanted_problem(blamed, head, map),
     }
 }
 
 /// What is wrong with an operator of two parts, by its head.
-fn binary_operator_type_problem(leaf: &BlamedPart<'_>, head: &str) -> FoundProblem {
-    let [first, second] = leaf.kinds else {
+fn binary_operator_type_problem(blamed: &BlamedPart<'_>, head: &str) -> FoundProblem {
+    let [first, second] = blamed.kinds else {
         return Ok(None);
     };
     match head {
-        "<" | "<=" => order_comparison_type_problem(leaf, head, first, second),
-        "=" => equality_type_problem(leaf, first, second),
-        "same" => same_operator_type_problem(leaf, first, second),
-        "nth" => nth_type_problem(leaf, first, second),
+        "<" | "<=" => order_comparison_type_problem(blamed, head, first, second),
+        "=" => equality_type_problem(blamed, first, second),
+        "same" => same_operator_type_problem(blamed, first, second),
+        "nth" => nth_type_problem(blamed, first, second),
         _ => Ok(None),
     }
 }
 
 /// Whether an operator takes only ints.
-fn takes_only_ints(head: &str) -> bool {
+fn is_int_operator(head: &str) -> bool {
     matches!(head, "+" | "-" | "*" | "div" | "rem" | "range")
 }
 
 /// What is wrong with an operator, by its head.
-fn operator_type_problem(leaf: &BlamedPart<'_>, head: &str) -> FoundProblem {
+fn operator_type_problem(blamed: &BlamedPart<'_>, head: &str) -> FoundProblem {
     match head {
-        "and" | "or" | "not" => first_ill_typed_part_problem(leaf, head, &Ty::Bool),
-        "len" | "++" => sequence_type_problem(leaf, head),
-        _ if takes_only_ints(head) => first_ill_typed_part_problem(leaf, head, &Ty::Int),
-        _ => binary_operator_type_problem(leaf, head),
+        "and" | "or" | "not" => first_ill_typed_part_problem(blamed, head, &Ty::Bool),
+        "len" | "++" => sequence_type_problem(blamed, head),
+        _ if is_int_operator(head) => first_ill_typed_part_problem(blamed, head, &Ty::Int),
+        _ => binary_operator_type_problem(blamed, head),
     }
 }
 
 /// What is wrong with a form of expressions, by its head.
-fn expression_form_type_problem(leaf: &BlamedPart<'_>, head: &str) -> FoundProblem {
+fn expression_form_type_problem(blamed: &BlamedPart<'_>, head: &str) -> FoundProblem {
     match head {
-        "if" => if_type_problem(leaf),
-        "deref" => deref_type_problem(leaf),
-        "at" => tuple_access_type_problem(leaf),
-        "list" => first_ill_typed_list_item_problem(leaf),
-        "for" => comprehension_type_problem(leaf),
-        "fold" => fold_type_problem(leaf),
-        "call" => operation_call_type_problem(leaf),
-        _ if leaf.has_maps && is_head_of_map_form(head) => map_form_type_problem(leaf, head),
-        _ => operator_type_problem(leaf, head),
+        "if" => if_type_problem(blamed),
+        "deref" => deref_type_problem(blamed),
+        "at" => tuple_access_type_problem(blamed),
+        "list" => first_ill_typed_list_item_problem(blamed),
+        "for" => comprehension_type_problem(blamed),
+        "fold" => fold_type_problem(blamed),
+        "call" => operation_call_type_problem(blamed),
+        _ if blamed.has_maps && is_head_of_map_form(head) => map_form_type_problem(blamed, head),
+        _ => operator_type_problem(blamed, head),
     }
 }
 
 /// What is wrong with a form of expressions, or else with the application of a function, by the head.
-fn type_problem_by_head(leaf: &BlamedPart<'_>, head: &str) -> FoundProblem {
-    match expression_form_type_problem(leaf, head)? {
+fn type_problem_by_head(blamed: &BlamedPart<'_>, head: &str) -> FoundProblem {
+    match expression_form_type_problem(blamed, head)? {
         Some(found) => Ok(Some(found)),
-        None => function_application_type_problem(leaf, head),
+        None => function_application_type_problem(blamed, head),
     }
 }
 
 /// What is wrong with the part that is to blame.
-pub fn diagnose_blamed_part(leaf: &BlamedPart<'_>) -> FoundProblem {
-    if let Some(word) = word_of(leaf.form) {
-        return unknown_name_problem(leaf, word.as_str());
+pub fn diagnose_blamed_part(blamed: &BlamedPart<'_>) -> FoundProblem {
+    if let Some(word) = word_of(blamed.form) {
+        return unknown_name_problem(blamed, word.as_str());
     }
-    match type_problem_by_head(leaf, head_word_or_empty(leaf.form))? {
+    match type_problem_by_head(blamed, head_word_or_empty(blamed.form))? {
         Some(found) => Ok(Some(found)),
-        None => problem_at(leaf.alloc, leaf.path, "this has no type"),
+        None => problem_at(blamed.alloc, blamed.path, "this has no type"),
     }
 }

@@ -83,7 +83,7 @@ pub fn with_item_access_hint(
 }
 
 /// The problem of the expression at `path`, which has the type `found` instead of `wanted`.
-pub fn expected_type_problem<D: Display + Drop>(
+pub fn type_mismatch_problem<D: Display + Drop>(
     alloc: Global,
     path: &[usize],
     what: D,
@@ -102,49 +102,49 @@ pub fn expected_type_problem<D: Display + Drop>(
 
 /// The problem of part `part` of a tree, if its type `found` is another than `wanted`.
 pub fn operand_type_problem<D: Display + Drop>(
-    leaf: &BlamedPart<'_>,
+    blamed: &BlamedPart<'_>,
     what: D,
     part: usize,
     wanted: &Kind,
     found: &Kind,
 ) -> FoundProblem {
-    if wanted.same(leaf.alloc, found)? {
+    if wanted.same(blamed.alloc, found)? {
         return Ok(None);
     }
-    let path = path_to_part(leaf.path, leaf.alloc, part)?;
-    expected_type_problem(leaf.alloc, path.as_slice(), what, wanted, found)
+    let path = path_to_part(blamed.path, blamed.alloc, part)?;
+    type_mismatch_problem(blamed.alloc, path.as_slice(), what, wanted, found)
 }
 
 /// The problem of the first part, which has another kind than its form takes.
-pub fn first_operand_problem<D: Display + Drop>(
-    leaf: &BlamedPart<'_>,
+pub fn wrong_first_operand_problem<D: Display + Drop>(
+    blamed: &BlamedPart<'_>,
     what: D,
     found: &Kind,
 ) -> FoundProblem {
-    let has = type_text_of_kind(leaf.alloc, found)?;
+    let has = type_text_of_kind(blamed.alloc, found)?;
     let refused = problem_at_part(
-        leaf.alloc,
-        leaf.path,
+        blamed.alloc,
+        blamed.path,
         1,
         format_args!("{what}, found {has}"),
     )?;
-    with_hint_if_reference(leaf.alloc, refused, found)
+    with_hint_if_reference(blamed.alloc, refused, found)
 }
 
 /// The problem of the first part of `at`, which is no tuple.
-pub fn tuple_wanted_problem(leaf: &BlamedPart<'_>, found: &Kind) -> FoundProblem {
-    let refused = first_operand_problem(leaf, "`at` takes a tuple", found)?;
-    with_item_access_hint(leaf.alloc, refused, found)
+pub fn tuple_wanted_problem(blamed: &BlamedPart<'_>, found: &Kind) -> FoundProblem {
+    let refused = wrong_first_operand_problem(blamed, "`at` takes a tuple", found)?;
+    with_item_access_hint(blamed.alloc, refused, found)
 }
 
 /// The problem of a form that takes a text or a list, and whose first part is neither.
-pub fn sequence_wanted_problem(leaf: &BlamedPart<'_>, head: &str, found: &Kind) -> FoundProblem {
-    let refused = first_operand_problem(
-        leaf,
+pub fn sequence_wanted_problem(blamed: &BlamedPart<'_>, head: &str, found: &Kind) -> FoundProblem {
+    let refused = wrong_first_operand_problem(
+        blamed,
         format_args!("`{head}` takes a text or a list"),
         found,
     )?;
-    with_map_keys_hint(leaf.alloc, refused, found)
+    with_map_keys_hint(blamed.alloc, refused, found)
 }
 
 /// The problem of part `part` of the tree that `path` leads to, which is no list.
@@ -167,40 +167,44 @@ pub fn list_wanted_problem(
 }
 
 /// Whether the second part is a map.
-fn is_second_operand_map(leaf: &BlamedPart<'_>) -> Result<bool, AllocError> {
-    match leaf.kinds.get(1) {
-        Some(second) => Ok(matches!(second.form(leaf.alloc)?, KindForm::Map(_, _))),
+fn is_second_operand_map(blamed: &BlamedPart<'_>) -> Result<bool, AllocError> {
+    match blamed.kinds.get(1) {
+        Some(second) => Ok(matches!(second.form(blamed.alloc)?, KindForm::Map(_, _))),
         None => Ok(false),
     }
 }
 
 /// The problem of a form of maps whose first part and second part are no maps.
-fn missing_map_problem(leaf: &BlamedPart<'_>, head: &str, found: &Kind) -> FoundProblem {
+fn missing_map_problem(blamed: &BlamedPart<'_>, head: &str, found: &Kind) -> FoundProblem {
     let what = format_args!("`{head}`: expected a map");
-    let refused = first_operand_problem(leaf, what, found)?;
+    let refused = wrong_first_operand_problem(blamed, what, found)?;
     if head == "get" {
-        with_item_access_hint(leaf.alloc, refused, found)
+        with_item_access_hint(blamed.alloc, refused, found)
     } else {
         Ok(refused)
     }
 }
 
-/// The problem of a form of maps whose second part is a map, and the first is none.
-fn map_order_problem(leaf: &BlamedPart<'_>, head: &str, found: &Kind) -> FoundProblem {
-    let found = type_text_of_kind(leaf.alloc, found)?;
+/// The problem of a form of maps whose second part is a map, and whose first part is not.
+fn map_not_first_operand_problem(
+    blamed: &BlamedPart<'_>,
+    head: &str,
+    found: &Kind,
+) -> FoundProblem {
+    let found = type_text_of_kind(blamed.alloc, found)?;
     problem_with_note(
-        leaf.alloc,
-        leaf.path,
+        blamed.alloc,
+        blamed.path,
         format_args!("`{head}` takes the map first, found {found}"),
         "hint: in the other order the two may fit",
     )
 }
 
 /// The problem of a form of maps whose first part is no map.
-pub fn map_wanted_problem(leaf: &BlamedPart<'_>, head: &str, found: &Kind) -> FoundProblem {
-    if is_second_operand_map(leaf)? {
-        map_order_problem(leaf, head, found)
+pub fn map_wanted_problem(blamed: &BlamedPart<'_>, head: &str, found: &Kind) -> FoundProblem {
+    if is_second_operand_map(blamed)? {
+        map_not_first_operand_problem(blamed, head, found)
     } else {
-        missing_map_problem(leaf, head, found)
+        missing_map_problem(blamed, head, found)
     }
 }

@@ -1,4 +1,4 @@
-//! Types of expressions as they are shown.
+//! How messages spell types.
 
 ghost use Rattle.std.specs.Prelude.{◌≤◌};
 
@@ -19,7 +19,7 @@ enum ReferenceSpelling {
     Values,
 }
 
-/// A type, as it is written.
+/// The spelling of a type.
 pub fn type_text_of_kind(alloc: Global, kind: &Kind) -> Result<String, AllocError> {
     let mut text = String::new(alloc);
     let mut left = MOST_FORMS;
@@ -79,19 +79,19 @@ fn push_type_text(
     }
 }
 
-/// Adds `opening`, the last part of a type, and a closing bracket.
+/// Adds `start`, the last part of a type, and a closing bracket.
 #[cycle(push_type_text)]
 fn push_last_type_part_text(
     text: &mut String,
     alloc: Global,
-    opening: &str,
+    start: &str,
     kind: &Kind,
     references: ReferenceSpelling,
     left: &mut usize,
 ) -> Result<(), AllocError>
     ensures { left.new ≤ left.old }
 {
-    text.push_str(opening)?;
+    text.push_str(start)?;
     push_type_text(text, alloc, kind, references, left)?;
     text.push_str(")")
 }

@@ -21,7 +21,7 @@ pub fn comprehension_clauses(form: &Form) -> &[Form] {
 }
 
 /// Whether a clause goes over a list. Any other one is a test.
-pub fn clause_iterates_over_list(clause: &Form) -> bool {
+pub fn is_in_clause(clause: &Form) -> bool {
     head_word_or_empty(clause) == "in"
 }
 
@@ -66,15 +66,7 @@ fn enter_comprehension_part<'a>(
     };
     path.push(1)?;
     path.push(part)?;
-    enter_tree(
-        path,
-        clause,
-        if clause_iterates_over_list(clause) {
-            2
-        } else {
-            1
-        },
-    )
+    enter_tree(path, clause, if is_in_clause(clause) { 2 } else { 1 })
 }
 
 /// Goes from the tree of an expression to its part `part`: extends `path`, and returns the tree of the part.

@@ -1,7 +1,7 @@
 //! Models that are not well typed.
 
 use crate::diagnose::{BlamedPart, diagnose_blamed_part};
-use crate::operands::expected_type_problem;
+use crate::operands::type_mismatch_problem;
 use crate::trees::{enter_expression_part, find_callback_body, tree_part_or_whole};
 use crate::walk::{expression_part_at_path_with_names, scope_names};
 use pst_model::{Expr, Fun, Item, Op, Source, state_of};
@@ -65,7 +65,7 @@ fn type_problem_of_blame(
     let form = enter_expression_part_at_path(&mut path, site.form, blame.path.as_slice())?;
     let mut names = scope_names(alloc, scope)?;
     let expr = expression_part_at_path_with_names(alloc, &mut names, expr, blame.path.as_slice())?;
-    let leaf = BlamedPart {
+    let blamed = BlamedPart {
         alloc,
         context,
         expr,
@@ -76,15 +76,19 @@ fn type_problem_of_blame(
         called: site.called,
         has_maps: site.has_maps,
     };
-    diagnose_blamed_part(&leaf)
+    diagnose_blamed_part(&blamed)
 }
 
 /// The problem of an expression of the kind `found`, if it has to have another kind.
-fn wanted_type_problem(alloc: Global, site: &ExpressionSite<'_>, found: &Kind) -> FoundProblem {
+fn problem_if_expression_type_differs(
+    alloc: Global,
+    site: &ExpressionSite<'_>,
+    found: &Kind,
+) -> FoundProblem {
     if found.same(alloc, site.wanted)? {
         return Ok(None);
     }
-    let refused = expected_type_problem(alloc, site.path, site.called, site.wanted, found)?;
+    let refused = type_mismatch_problem(alloc, site.path, site.called, site.wanted, found)?;
     if site.called == "next" && head_word_or_empty(site.form) == "=" {
         return with_note(
             alloc,
@@ -106,7 +110,7 @@ fn add_expression_type_problems(
     match infer(expr, context, scope)? {
         Found::Kind(kind) => push_problem_if_any(
             problems,
-            wanted_type_problem(context.alloc, site, &kind)?,
+            problem_if_expression_type_differs(context.alloc, site, &kind)?,
         ),
         Found::Blamed(blames) => {
             for blame in blames.as_slice() {
@@ -135,11 +139,11 @@ fn add_callback_type_problems(
     problems: &mut Vec<Problem>,
     expr: &Expr,
     word: &str,
-    context: &Context<'_>,
     scope: &Scope<'_>,
     wanted: &Kind,
     here: ItemSite<'_>,
 ) -> Result<(), AllocError> {
+    let context = context_with_all_items(here, word == "post");
     let Some((place, body)) = find_callback_body(here.form, word) else {
         return Ok(());
     };
@@ -150,7 +154,7 @@ fn add_callback_type_problems(
         wanted,
         has_maps: here.has_maps,
     };
-    add_expression_type_problems(problems, expr, context, scope, &site)
+    add_expression_type_problems(problems, expr, &context, scope, &site)
 }
 
 /// Adds what is wrong with the callback `pre`, which sees the state.
@@ -160,10 +164,9 @@ fn add_pre_type_problems(
     here: ItemSite<'_>,
 ) -> Result<(), AllocError> {
     let truth = Kind::of(here.alloc, &Ty::Bool)?;
-    let context = context_with_all_items(here, false);
     let params = Scope::Parameters(op.params.as_slice());
     let scope = Scope::With(b"s".as_slice(), here.state, &params);
-    add_callback_type_problems(problems, &op.pre, "pre", &context, &scope, &truth, here)
+    add_callback_type_problems(problems, &op.pre, "pre", &scope, &truth, here)
 }
 
 /// Adds what is wrong with the callback `next`, which sees the state and a reference to the result.
@@ -173,13 +176,10 @@ fn add_next_type_problems(
     here: ItemSite<'_>,
 ) -> Result<(), AllocError> {
     let named = Kind::of(here.alloc, &op.result)?.reference(here.alloc)?;
-    let context = context_with_all_items(here, false);
     let params = Scope::Parameters(op.params.as_slice());
     let seen = Scope::With(b"s".as_slice(), here.state, &params);
     let scope = Scope::With(b"r".as_slice(), &named, &seen);
-    add_callback_type_problems(
-        problems, &op.next, "next", &context, &scope, here.state, here,
-    )
+    add_callback_type_problems(problems, &op.next, "next", &scope, here.state, here)
 }
 
 /// Adds what is wrong with the callback `post`, which sees the state and the result.
@@ -190,15 +190,14 @@ fn add_post_type_problems(
 ) -> Result<(), AllocError> {
     let truth = Kind::of(here.alloc, &Ty::Bool)?;
     let value = Kind::of(here.alloc, &op.result)?;
-    let context = context_with_all_items(here, true);
     let params = Scope::Parameters(op.params.as_slice());
     let seen = Scope::With(b"s".as_slice(), here.state, &params);
     let scope = Scope::With(b"r".as_slice(), &value, &seen);
-    add_callback_type_problems(problems, &op.post, "post", &context, &scope, &truth, here)
+    add_callback_type_problems(problems, &op.post, "post", &scope, &truth, here)
 }
 
 /// What is wrong with the types that an operation declares.
-fn declared_type_problem(op: &Op, here: ItemSite<'_>) -> FoundProblem {
+fn operation_signature_type_problem(op: &Op, here: ItemSite<'_>) -> FoundProblem {
     let (alloc, number) = (here.alloc, here.number);
     for (place, param) in op.params.as_slice().iter().enumerate() {
         if holds_call(&param.ty) {
@@ -223,7 +222,7 @@ fn add_operation_type_problems(
     op: &Op,
     here: ItemSite<'_>,
 ) -> Result<(), AllocError> {
-    push_problem_if_any(problems, declared_type_problem(op, here)?)?;
+    push_problem_if_any(problems, operation_signature_type_problem(op, here)?)?;
     add_pre_type_problems(problems, op, here)?;
     add_next_type_problems(problems, op, here)?;
     add_post_type_problems(problems, op, here)
@@ -255,7 +254,7 @@ fn add_function_type_problems(
 }
 
 /// Adds what is wrong with the expression of the item `called`, which is not in an operation or a function.
-fn add_item_body_type_problems(
+fn add_init_or_command_type_problems(
     problems: &mut Vec<Problem>,
     expr: &Expr,
     called: &str,
@@ -286,7 +285,7 @@ fn add_init_type_problems(
     here: ItemSite<'_>,
 ) -> Result<(), AllocError> {
     let none = Scope::Parameters(&[]);
-    add_item_body_type_problems(problems, expr, "init", &none, here.state, here)
+    add_init_or_command_type_problems(problems, expr, "init", &none, here.state, here)
 }
 
 /// Adds what is wrong with the item `command`, which sees the state.
@@ -298,7 +297,7 @@ fn add_command_type_problems(
     let calls = Kind::of(here.alloc, &Ty::Call)?.list(here.alloc)?;
     let none = Scope::Parameters(&[]);
     let scope = Scope::With(b"s".as_slice(), here.state, &none);
-    add_item_body_type_problems(problems, expr, "command", &scope, &calls, here)
+    add_init_or_command_type_problems(problems, expr, "command", &scope, &calls, here)
 }
 
 /// What is wrong with the type of the state.

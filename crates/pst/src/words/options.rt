@@ -71,7 +71,7 @@ pub fn branches_option<'a>(alloc: Global) -> Result<Arg<'a>, AllocError> {
 }
 
 /// Returns whether the arguments have a client, which the launcher starts and not the program.
-pub fn arguments_name_client(matches: &ArgMatches<'_>) -> bool {
+pub fn has_client_argument(matches: &ArgMatches<'_>) -> bool {
     match matches.subcommand() {
         Some((_, words)) => words.get_str("client").is_some(),
         None => false,
@@ -93,7 +93,7 @@ pub fn format_option<'a>(alloc: Global) -> Arg<'a> {
 }
 
 /// Returns whether the arguments select JSON output.
-pub fn arguments_select_json(words: &ArgMatches<'_>) -> bool {
+pub fn is_json_selected(words: &ArgMatches<'_>) -> bool {
     words.get_str("format") == Some("json")
 }
 

@@ -2,7 +2,7 @@
 ghost use Rattle.std.specs.Prelude.{◌≡◌, IfOk};
 ghost use Rattle.pst_runs.specs.Lawful.{AreLawful};
 
-use crate::memory::reading::{text_of, trees_of, typed_of};
+use crate::memory::reading::{text_of, trees_of, typed_counter_model};
 use crate::memory::refused::Refused;
 use crate::models::COUNTER_AND_ITEMS;
 use pst_case::{Case, CaseFaultKind, Run};
@@ -34,7 +34,7 @@ fn runs_of(alloc: Global, typed: &Typed) -> Result<Vec<Run>, Refused>
 
 /// Calls `read_runs` and `write_runs`, and returns the written items.
 pub fn runs_answer(alloc: Global) -> Result<String, Refused> {
-    let typed = typed_of(alloc)?;
+    let typed = typed_counter_model(alloc)?;
     let runs = runs_of(alloc, &typed)?;
     let mut out = Out::new(Vec::new(alloc));
     match write_runs(alloc, &typed, runs.as_slice(), &mut out) {
@@ -46,7 +46,7 @@ pub fn runs_answer(alloc: Global) -> Result<String, Refused> {
 
 /// Calls `verdict`, which uses `some`, and returns the verdict on the run.
 pub fn verdict_answer(alloc: Global) -> Result<String, Refused> {
-    let typed = typed_of(alloc)?;
+    let typed = typed_counter_model(alloc)?;
     let runs = runs_of(alloc, &typed)?;
     let Some((run, _)) = runs.as_slice().split_first() else {
         return Err(Refused::Otherwise("no run"));
@@ -68,7 +68,7 @@ fn valid_text(alloc: Global, typed: &Typed, case: Case) -> Result<String, Refuse
 
 /// Calls `valid_case_if_accepted`, which uses `every`, and returns whether the case of the run is valid.
 pub fn valid_answer(alloc: Global) -> Result<String, Refused> {
-    let typed = typed_of(alloc)?;
+    let typed = typed_counter_model(alloc)?;
     let runs = runs_of(alloc, &typed)?;
     match runs.as_slice().first() {
         Some(run) => valid_text(alloc, &typed, run.shaped.case().copy(alloc)?),
@@ -84,7 +84,7 @@ fn case_text(alloc: Global, valid: &Valid) -> Result<String, AllocError> {
 
 /// Calls `generate` and returns a case of four commands.
 pub fn generate_answer(alloc: Global) -> Result<String, Refused> {
-    let typed = typed_of(alloc)?;
+    let typed = typed_counter_model(alloc)?;
     let mut words = Pcg64::new(7, 0);
     match generate(&Plain::new(&typed), alloc, &typed, &mut words, 4, 2, 0)? {
         Ok(valid) => Ok(case_text(alloc, &valid)?),

@@ -19,7 +19,7 @@ pub fn trees_of(alloc: Global) -> Result<Vec<Tree>, Refused> {
 }
 
 /// The counter's model.
-fn model_of(alloc: Global) -> Result<Model, Refused> {
+fn read_counter_model(alloc: Global) -> Result<Model, Refused> {
     let trees = trees_of(alloc)?;
     match read_model(alloc, trees.as_slice()) {
         Ok(model) => Ok(model),
@@ -29,8 +29,8 @@ fn model_of(alloc: Global) -> Result<Model, Refused> {
 }
 
 /// The counter's well-typed model.
-pub fn typed_of(alloc: Global) -> Result<Typed, Refused> {
-    match check(alloc, model_of(alloc)?) {
+pub fn typed_counter_model(alloc: Global) -> Result<Typed, Refused> {
+    match check(alloc, read_counter_model(alloc)?) {
         Ok(typed) => Ok(typed),
         Err((_, TypeFault::NoMemory)) => Err(Refused::NoMemory),
         Err((_, fault)) => Err(Refused::Otherwise(fault.name())),
@@ -39,7 +39,7 @@ pub fn typed_of(alloc: Global) -> Result<Typed, Refused> {
 
 /// The counter's compiled model.
 fn compiled_of(alloc: Global) -> Result<Compiled, Refused> {
-    match compile(alloc, typed_of(alloc)?) {
+    match compile(alloc, typed_counter_model(alloc)?) {
         Ok(compiled) => Ok(compiled),
         Err(_) => Err(Refused::NoMemory),
     }
@@ -72,13 +72,13 @@ pub fn read_answer(alloc: Global) -> Result<String, Refused> {
 
 /// Calls `read_model` and `print_model`, and returns the printed model.
 pub fn model_answer(alloc: Global) -> Result<String, Refused> {
-    let model = model_of(alloc)?;
+    let model = read_counter_model(alloc)?;
     spelling_of(alloc, &print_model(alloc, &model)?)
 }
 
 /// Calls `check` and returns the name of the well-typed model.
 pub fn check_answer(alloc: Global) -> Result<String, Refused> {
-    let typed = typed_of(alloc)?;
+    let typed = typed_counter_model(alloc)?;
     Ok(String::from_str(alloc, model_name(&typed).as_str())?)
 }
 

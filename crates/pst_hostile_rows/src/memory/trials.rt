@@ -70,7 +70,7 @@ pub fn trial_answer<R: Threads + Wait>(rt: &R, alloc: Global) -> Result<String, 
 }
 
 /// Returns whether each trial has a record.
-fn are_done(entries: &[Entry<Record>]) -> bool {
+fn has_record_for_each_trial(entries: &[Entry<Record>]) -> bool {
     for entry in entries {
         if !matches!(entry, Entry::Done(_)) {
             return false;
@@ -84,7 +84,7 @@ fn report_of(alloc: Global, plan: &Plan, closed: &Closed<Record>) -> Result<Stri
     requires trials { length closed.now ≡ plan.now.settings.trials }
     requires records { AreOf plan.now 0 closed.now }
 {
-    if !are_done(closed.entries()) {
+    if !has_record_for_each_trial(closed.entries()) {
         return Err(Refused::NoMemory);
     }
     let mut out = Out::new(Vec::new(alloc));

@@ -41,14 +41,14 @@ fn sizes(functions: Items<FunCode>) -> Option<(u32, u32, usize)> {
 }
 
 #[test]
-fn lawful_code_keeps_its_functions(rt: HostRuntime) -> Result<(), Fail> {
+fn valid_code_keeps_its_functions(rt: HostRuntime) -> Result<(), Fail> {
     let alloc = rt.alloc();
     let of_sum = sizes(sum(alloc)?);
     let of_unwritten = sizes(unwritten(alloc)?);
     let of_identity = sizes(identity(alloc)?);
-    let is_lawful = Code::check(Items::new(alloc)).is_ok();
+    let is_valid = Code::check(Items::new(alloc)).is_ok();
     assert!(rt; (of_sum, of_unwritten) == (Some((1, 4, 6)), Some((0, 1, 1))));
-    assert!(rt; of_identity == Some((1, 1, 1)) && is_lawful);
+    assert!(rt; of_identity == Some((1, 1, 1)) && is_valid);
     Ok(())
 }
 

@@ -65,13 +65,17 @@ pub fn division(alloc: Global) -> Result<Items<FunCode>, AllocError> {
 }
 
 /// The map of these keys and values.
-fn map_of(alloc: Global, keys: Items<Key>, values: Items<Value>) -> Result<Value, AllocError> {
+fn map_of_keys_and_values(
+    alloc: Global,
+    keys: Items<Key>,
+    values: Items<Value>,
+) -> Result<Value, AllocError> {
     Ok(Value::Map(Boxed::new(alloc, keys)?, Boxed::new(alloc, values)?))
 }
 
 /// The map that has no keys.
 fn empty_map(alloc: Global) -> Result<Value, AllocError> {
-    map_of(alloc, Items::new(alloc), Items::new(alloc))
+    map_of_keys_and_values(alloc, Items::new(alloc), Items::new(alloc))
 }
 
 /// The keys 7, 3 and 5 are put into a map, and 7 is deleted: its keys then.
@@ -128,7 +132,7 @@ pub fn constant_map(alloc: Global) -> Result<Items<FunCode>, AllocError> {
     values.push(Value::Int(-1))?;
     values.push(Value::List(Items::new(alloc)))?;
     let body = [
-        Instr::Const(0, map_of(alloc, keys, values)?),
+        Instr::Const(0, map_of_keys_and_values(alloc, keys, values)?),
         Instr::Return(0),
     ];
     one_function(alloc, 0, 1, body)

@@ -14,7 +14,7 @@ fn variable_of(digit: u8) -> Value {
 }
 
 /// The map of two variables, by the keys 1 and 2.
-fn map_of(alloc: Global, first: u8, second: u8) -> Result<Value, AllocError> {
+fn map_of_two_variables(alloc: Global, first: u8, second: u8) -> Result<Value, AllocError> {
     let mut keys = Items::new(alloc);
     keys.push(Key::Int(1))?;
     keys.push(Key::Int(2))?;
@@ -31,7 +31,7 @@ fn args_of(alloc: Global, digits: &[u8]) -> Result<Items<Value>, AllocError> {
         return Ok(args);
     };
     let value = match digits.get(1) {
-        Some(second) => map_of(alloc, *first, *second)?,
+        Some(second) => map_of_two_variables(alloc, *first, *second)?,
         None => variable_of(*first),
     };
     args.push(value)?;

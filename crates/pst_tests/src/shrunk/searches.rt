@@ -7,8 +7,8 @@ use pst_value::Items;
 use std::alloc::Global;
 use std::test::Fail;
 
-/// Holds a case without commands for not valid, and breaks if a command has operation `a`. It fails after
-/// `fails_after` driven cases.
+/// Finds a case without commands in prefix and branches not valid, and breaks if a command has operation `a`. It fails
+/// after `fails_after` driven cases.
 #[derive(Drop)]
 struct Breaks {
     alloc: Global,
@@ -23,7 +23,7 @@ fn has_a(commands: &Items<Command>) -> bool {
         .any(|command| command.op == b'a' as u32)
 }
 
-fn is_broken(case: &Case) -> bool {
+fn has_call_of_operation_a(case: &Case) -> bool {
     has_a(&case.prefix) || case.branches.as_slice().iter().any(|branch| has_a(branch))
 }
 
@@ -59,7 +59,7 @@ impl Attempt for Breaks {
             return Err(self.driven);
         }
         self.driven += 1;
-        if is_broken(case) {
+        if has_call_of_operation_a(case) {
             Ok(AttemptOutcome::Broke(Items::new(self.alloc), self.driven))
         } else {
             Ok(AttemptOutcome::Held(Items::new(self.alloc)))
@@ -111,7 +111,7 @@ fn a_limit_stops_the_search(rt: HostRuntime) -> Result<(), Fail> {
 }
 
 #[test]
-fn a_fault_of_the_attempt_is_answered(rt: HostRuntime) -> Result<(), Fail> {
+fn a_fault_of_the_attempt_is_returned(rt: HostRuntime) -> Result<(), Fail> {
     let fault = shrink_two(rt.alloc(), 10, 2).ok_or("no case")?;
     assert!(rt; matches!(fault, Err(ShrinkFault::Attempt(2))));
     Ok(())

@@ -4,9 +4,9 @@ use pst_ledger::Numbered;
 
 /// A record that is its number.
 #[derive(Debug, PartialEq, Eq, Drop)]
-pub(crate) struct Note(pub(crate) u64);
+pub(crate) struct NumberRecord(pub(crate) u64);
 
-impl Numbered for Note {
+impl Numbered for NumberRecord {
     ghost number_of = { λ note. note.0 };
 
     fn number(&self) -> u64 {

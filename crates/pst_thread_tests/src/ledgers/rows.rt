@@ -1,18 +1,18 @@
 //! Rows of calls, each with its answer.
 ghost use Rattle.std.specs.Prelude.{◌≡◌, None};
 
-use crate::ledgers::notes::Note;
+use crate::ledgers::notes::NumberRecord;
 use pst_ledger::{Book, Call, Cause, CloseFault, Entry, Ledger, LedgerFault, Reply, Seat, replay};
 use std::process::Abort;
 use std::test::Fail;
 
 #[test]
 fn book_of_three_trials(rt: HostRuntime) -> Result<(), Fail> {
-    let mut book = Book::<Note>::open(rt.alloc(), 3, 2)?;
+    let mut book = Book::<NumberRecord>::open(rt.alloc(), 3, 2)?;
     assert!(rt; book.claim(0) == Some(0));
     assert!(rt; book.claim(1) == Some(1));
-    assert!(rt; book.deposit(0, Note(1)) == Err((Note(1), LedgerFault::NotYours)));
-    assert!(rt; book.deposit(1, Note(1)).is_ok());
+    assert!(rt; book.deposit(0, NumberRecord(1)) == Err((NumberRecord(1), LedgerFault::NotYours)));
+    assert!(rt; book.deposit(1, NumberRecord(1)).is_ok());
     assert!(rt; book.lose(1, 1, Cause::NoThread) == Err(LedgerFault::Twice));
     assert!(rt; book.claim(1) == Some(2));
     assert!(rt; book.lose(1, 2, Cause::ResetFailed).is_ok());
@@ -21,19 +21,23 @@ fn book_of_three_trials(rt: HostRuntime) -> Result<(), Fail> {
     let entries = closed.entries();
     assert!(rt; entries.len() == 3);
     assert!(rt; entries[0] == Entry::Held);
-    assert!(rt; entries[1] == Entry::Done(Note(1)));
+    assert!(rt; entries[1] == Entry::Done(NumberRecord(1)));
     assert!(rt; entries[2] == Entry::Lost(Cause::ResetFailed));
     Ok(())
 }
 
 #[test]
 fn ledger_of_one_seat(rt: HostRuntime) -> Result<(), Fail> {
-    let (ledger, mut seats) = Ledger::<Note>::open(rt.alloc(), 2, 1)?;
+    let (ledger, mut seats) = Ledger::<NumberRecord>::open(rt.alloc(), 2, 1)?;
     let mut seat = seats.pop().expect(&rt, "a seat");
     assert!(rt; ledger.claim(&mut seat) == Some(0));
-    assert!(rt; ledger.deposit(&mut seat, Note(0)).is_ok());
-    assert!(rt; ledger.deposit(&mut seat, Note(0)) == Err((Note(0), LedgerFault::Twice)));
-    assert!(rt; ledger.deposit(&mut seat, Note(1)) == Err((Note(1), LedgerFault::NotYours)));
+    assert!(rt; ledger.deposit(&mut seat, NumberRecord(0)).is_ok());
+    assert!(rt;
+        ledger.deposit(&mut seat, NumberRecord(0)) == Err((NumberRecord(0), LedgerFault::Twice))
+    );
+    assert!(rt;
+        ledger.deposit(&mut seat, NumberRecord(1)) == Err((NumberRecord(1), LedgerFault::NotYours))
+    );
     assert!(rt; ledger.claim(&mut seat) == Some(1));
     assert!(rt; seat.held() == Some(1));
     assert!(rt; ledger.lose(&mut seat, 1, Cause::NoThread).is_ok());
@@ -47,14 +51,14 @@ fn ledger_of_one_seat(rt: HostRuntime) -> Result<(), Fail> {
     };
     let entries = closed.entries();
     assert!(rt; entries.len() == 2);
-    assert!(rt; entries[0] == Entry::Done(Note(0)));
+    assert!(rt; entries[0] == Entry::Done(NumberRecord(0)));
     assert!(rt; entries[1] == Entry::Lost(Cause::NoThread));
     Ok(())
 }
 
 #[test]
 fn ledger_with_a_missing_seat(rt: HostRuntime) -> Result<(), Fail> {
-    let (ledger, mut seats) = Ledger::<Note>::open(rt.alloc(), 2, 2)?;
+    let (ledger, mut seats) = Ledger::<NumberRecord>::open(rt.alloc(), 2, 2)?;
     let mut second = seats.pop().expect(&rt, "a seat");
     let Err((ledger, seats, CloseFault::MissingSeat)) = ledger.close(seats) else {
         panic!(rt; "closed without the second seat")
@@ -67,32 +71,37 @@ fn ledger_with_a_missing_seat(rt: HostRuntime) -> Result<(), Fail> {
 /// The calls of two seats on a ledger of two trials. Each answer is the one that a book gives.
 fn call_from_two_seats<A: Abort>(
     rt: &A,
-    ledger: &Ledger<Note>,
-    mut first: Seat<Note>,
-    mut second: Seat<Note>,
-) -> (Seat<Note>, Seat<Note>)
+    ledger: &Ledger<NumberRecord>,
+    mut first: Seat<NumberRecord>,
+    mut second: Seat<NumberRecord>,
+) -> (Seat<NumberRecord>, Seat<NumberRecord>)
     requires first { (first.table ≡ ledger.now.table) × (first.held ≡ None) }
     requires second { (second.table ≡ ledger.now.table) × (second.held ≡ None) }
     ensures first { result.0.table ≡ ledger.now.table }
     ensures second { result.1.table ≡ ledger.now.table }
 {
     assert!(rt; ledger.claim(&mut first) == Some(0));
-    assert!(rt; ledger.deposit(&mut second, Note(0)) == Err((Note(0), LedgerFault::NotYours)));
+    assert!(rt;
+        ledger.deposit(&mut second, NumberRecord(0))
+            == Err((NumberRecord(0), LedgerFault::NotYours))
+    );
     assert!(rt; ledger.claim(&mut second) == Some(1));
-    assert!(rt; ledger.deposit(&mut second, Note(1)).is_ok());
-    assert!(rt; ledger.deposit(&mut second, Note(1)) == Err((Note(1), LedgerFault::Twice)));
+    assert!(rt; ledger.deposit(&mut second, NumberRecord(1)).is_ok());
+    assert!(rt;
+        ledger.deposit(&mut second, NumberRecord(1)) == Err((NumberRecord(1), LedgerFault::Twice))
+    );
     (first, second)
 }
 
 #[test]
 fn book_and_ledger_answer_alike(rt: HostRuntime) -> Result<(), Fail> {
-    let mut book = Book::<Note>::open(rt.alloc(), 2, 2)?;
+    let mut book = Book::<NumberRecord>::open(rt.alloc(), 2, 2)?;
     assert!(rt; book.claim(0) == Some(0));
-    assert!(rt; book.deposit(1, Note(0)) == Err((Note(0), LedgerFault::NotYours)));
+    assert!(rt; book.deposit(1, NumberRecord(0)) == Err((NumberRecord(0), LedgerFault::NotYours)));
     assert!(rt; book.claim(1) == Some(1));
-    assert!(rt; book.deposit(1, Note(1)).is_ok());
-    assert!(rt; book.deposit(1, Note(1)) == Err((Note(1), LedgerFault::Twice)));
-    let (ledger, mut seats) = Ledger::<Note>::open(rt.alloc(), 2, 2)?;
+    assert!(rt; book.deposit(1, NumberRecord(1)).is_ok());
+    assert!(rt; book.deposit(1, NumberRecord(1)) == Err((NumberRecord(1), LedgerFault::Twice)));
+    let (ledger, mut seats) = Ledger::<NumberRecord>::open(rt.alloc(), 2, 2)?;
     let second = seats.pop().expect(&rt, "a seat");
     let first = seats.pop().expect(&rt, "a seat");
     let (first, second) = call_from_two_seats(&rt, &ledger, first, second);
@@ -104,7 +113,7 @@ fn book_and_ledger_answer_alike(rt: HostRuntime) -> Result<(), Fail> {
     let entries = closed.entries();
     assert!(rt; entries.len() == 2);
     assert!(rt; entries[0] == Entry::Held);
-    assert!(rt; entries[1] == Entry::Done(Note(1)));
+    assert!(rt; entries[1] == Entry::Done(NumberRecord(1)));
     assert!(rt; entries == book.close().entries());
     Ok(())
 }
@@ -112,12 +121,12 @@ fn book_and_ledger_answer_alike(rt: HostRuntime) -> Result<(), Fail> {
 #[test]
 fn replies_to_a_list_of_calls(rt: HostRuntime) -> Result<(), Fail> {
     let mut calls = Vec::new(rt.alloc());
-    calls.push(Call::Deposit(0, Note(0)))?;
+    calls.push(Call::Deposit(0, NumberRecord(0)))?;
     calls.push(Call::Claim(0))?;
     calls.push(Call::Lose(0, 0, Cause::NoMemory))?;
     calls.push(Call::Claim(0))?;
     let mut replies = Vec::with_capacity(rt.alloc(), 4)?;
-    let mut book = Book::<Note>::open(rt.alloc(), 1, 1)?;
+    let mut book = Book::<NumberRecord>::open(rt.alloc(), 1, 1)?;
     replay(&mut book, calls, &mut replies);
     let expected = [
         Reply::Refused(LedgerFault::NotYours),

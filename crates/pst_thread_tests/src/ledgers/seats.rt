@@ -1,7 +1,7 @@
 //! Seats that claim when nothing is left, and that come back in any order.
 ghost use Rattle.std.specs.Prelude.{◌≡◌};
 
-use crate::ledgers::notes::Note;
+use crate::ledgers::notes::NumberRecord;
 use pst_ledger::{Cause, Closed, Entry, Ledger, Seat};
 use std::alloc::{AllocError, Global};
 use std::test::Fail;
@@ -9,11 +9,11 @@ use std::test::Fail;
 /// Closes a ledger with three seats, which come back in this order.
 fn close_with(
     alloc: Global,
-    ledger: Ledger<Note>,
-    first: Seat<Note>,
-    second: Seat<Note>,
-    third: Seat<Note>,
-) -> Result<Option<Closed<Note>>, AllocError>
+    ledger: Ledger<NumberRecord>,
+    first: Seat<NumberRecord>,
+    second: Seat<NumberRecord>,
+    third: Seat<NumberRecord>,
+) -> Result<Option<Closed<NumberRecord>>, AllocError>
     requires first { first.table ≡ ledger.table }
     requires second { second.table ≡ ledger.table }
     requires third { third.table ≡ ledger.table }
@@ -29,11 +29,11 @@ fn close_with(
 fn close_in_order(
     alloc: Global,
     order: u8,
-    ledger: Ledger<Note>,
-    first: Seat<Note>,
-    second: Seat<Note>,
-    third: Seat<Note>,
-) -> Result<Option<Closed<Note>>, AllocError>
+    ledger: Ledger<NumberRecord>,
+    first: Seat<NumberRecord>,
+    second: Seat<NumberRecord>,
+    third: Seat<NumberRecord>,
+) -> Result<Option<Closed<NumberRecord>>, AllocError>
     requires first { first.table ≡ ledger.table }
     requires second { second.table ≡ ledger.table }
     requires third { third.table ≡ ledger.table }
@@ -51,8 +51,11 @@ fn close_in_order(
 /// Closes a ledger of three numbers. The first seat ends its own and claims twice more, the second loses its
 /// own, and the third still holds its own. `order` says in which order the seats come back. `None` if a call
 /// answers otherwise.
-fn closed_in_order(alloc: Global, order: u8) -> Result<Option<Closed<Note>>, AllocError> {
-    let (ledger, mut seats) = Ledger::<Note>::open(alloc, 3, 3)?;
+fn ledger_used_and_closed_in_order(
+    alloc: Global,
+    order: u8,
+) -> Result<Option<Closed<NumberRecord>>, AllocError> {
+    let (ledger, mut seats) = Ledger::<NumberRecord>::open(alloc, 3, 3)?;
     let Some(mut third) = seats.pop() else {
         return Ok(None);
     };
@@ -73,7 +76,7 @@ fn closed_in_order(alloc: Global, order: u8) -> Result<Option<Closed<Note>>, All
     if ledger.lose(&mut second, 1, Cause::NoThread).is_err() {
         return Ok(None);
     }
-    if ledger.deposit(&mut first, Note(0)).is_err() {
+    if ledger.deposit(&mut first, NumberRecord(0)).is_err() {
         return Ok(None);
     }
     if ledger.claim(&mut first).is_some() {
@@ -88,12 +91,12 @@ fn closed_in_order(alloc: Global, order: u8) -> Result<Option<Closed<Note>>, All
 #[test]
 fn seats_come_back_in_any_order(rt: HostRuntime) -> Result<(), Fail> {
     let expected = [
-        Entry::Done(Note(0)),
+        Entry::Done(NumberRecord(0)),
         Entry::Lost(Cause::NoThread),
         Entry::Held,
     ];
     for order in 0..6u8 {
-        let Some(closed) = closed_in_order(rt.alloc(), order)? else {
+        let Some(closed) = ledger_used_and_closed_in_order(rt.alloc(), order)? else {
             return Err(Fail::new("a call of a seat has another answer"));
         };
         assert!(rt; closed.entries() == expected.as_slice(), "in order {order}");

@@ -1,14 +1,18 @@
 //! Threads that share a ledger.
 ghost use Rattle.std.specs.Prelude.{◌≡◌, true, None};
 
-use crate::ledgers::notes::Note;
+use crate::ledgers::notes::NumberRecord;
 use pst_ledger::{Entry, Ledger, Seat};
 use std::sync::Wait;
 use std::test::Fail;
 use std::thread;
 
 /// Claims until there is nothing left, and deposits a note for each number.
-fn drain<R: Wait>(rt: &R, ledger: &Ledger<Note>, mut seat: Seat<Note>) -> Seat<Note>
+fn drain<R: Wait>(
+    rt: &R,
+    ledger: &Ledger<NumberRecord>,
+    mut seat: Seat<NumberRecord>,
+) -> Seat<NumberRecord>
     requires own { seat.table ≡ ledger.now.table }
     requires idle { seat.held ≡ None }
     ensures place { result.table ≡ seat.table }
@@ -17,7 +21,7 @@ fn drain<R: Wait>(rt: &R, ledger: &Ledger<Note>, mut seat: Seat<Note>) -> Seat<N
     for _ in rt.forever() {
         match ledger.claim(&mut seat) {
             Some(number) => {
-                let _ = ledger.deposit(&mut seat, Note(number));
+                let _ = ledger.deposit(&mut seat, NumberRecord(number));
             }
             None => return seat,
         }
@@ -27,12 +31,12 @@ fn drain<R: Wait>(rt: &R, ledger: &Ledger<Note>, mut seat: Seat<Note>) -> Seat<N
 
 #[test]
 fn sixteen_threads_draw_each_number_once(rt: HostRuntime) -> Result<(), Fail> {
-    let (ledger, seats) = Ledger::<Note>::open(rt.alloc(), 100_000, 16)?;
+    let (ledger, seats) = Ledger::<NumberRecord>::open(rt.alloc(), 100_000, 16)?;
     let shared = &ledger;
     let back = thread::map_vec(
         &rt,
         seats,
-        &|seat: Seat<Note>|
+        &|seat: Seat<NumberRecord>|
             requires { (seat.table ≡ shared.now.table) × (seat.held ≡ None) }
             ensures { result.table ≡ shared.entry.now.table }
         { drain(&rt, shared, seat) },

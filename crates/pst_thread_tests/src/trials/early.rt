@@ -15,7 +15,7 @@ use std::thread::Threads;
 
 /// How many of twenty numbers have a record, and how many are undrawn, after a campaign with one worker on the system that
 /// answers 0: each case with a call fails there.
-fn counts<R: Threads + Wait + Sync>(
+fn count_done_and_undrawn_trials<R: Threads + Wait + Sync>(
     rt: &R,
     alloc: Global,
     ending: &EarlyStop,
@@ -46,21 +46,27 @@ fn counts<R: Threads + Wait + Sync>(
 #[test]
 fn a_campaign_ends_with_its_third_failure(rt: HostRuntime) -> Result<(), Fail> {
     let ending = EarlyStop::new(Some(3), None);
-    assert_eq!(rt; counts(&rt, rt.alloc(), &ending), Some((3, 17)));
+    assert_eq!(rt;
+        count_done_and_undrawn_trials(&rt, rt.alloc(), &ending),
+        Some((3, 17))
+    );
     Ok(())
 }
 
 #[test]
 fn a_campaign_without_a_limit_runs_all_trials(rt: HostRuntime) -> Result<(), Fail> {
     let ending = EarlyStop::new(None, None);
-    assert_eq!(rt; counts(&rt, rt.alloc(), &ending), Some((20, 0)));
+    assert_eq!(rt;
+        count_done_and_undrawn_trials(&rt, rt.alloc(), &ending),
+        Some((20, 0))
+    );
     Ok(())
 }
 
 /// The counts of a campaign that is interrupted before its first trial.
 fn interrupted_counts<R: Threads + Wait + Sync>(rt: &R, alloc: Global) -> Option<(usize, usize)> {
     let interrupted = Arc::new(alloc, AtomicBool::new(true)).ok()?;
-    counts(rt, alloc, &EarlyStop::new(None, Some(interrupted)))
+    count_done_and_undrawn_trials(rt, alloc, &EarlyStop::new(None, Some(interrupted)))
 }
 
 #[test]

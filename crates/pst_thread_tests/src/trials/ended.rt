@@ -5,7 +5,7 @@ use pst_eval::Callback;
 use pst_samples::Counter;
 use pst_system::BoxedSystem;
 use pst_tests::support::{COUNTER, ONE, TOP};
-use pst_tests::systems::Resets;
+use pst_tests::systems::LimitedResets;
 use pst_trial::{Record, Settings, TrialFault, TrialOutcome, trial};
 use std::alloc::Global;
 use std::sync::Wait;
@@ -13,14 +13,14 @@ use std::test::Fail;
 use std::thread::Threads;
 
 /// How many suffix commands and how many runs a trial has, if it passed.
-fn passed(record: &Record) -> Option<(usize, usize)> {
+fn suffix_and_run_counts_if_passed(record: &Record) -> Option<(usize, usize)> {
     match record.outcome() {
         TrialOutcome::Passed { case, runs } => Some((case.suffix.len(), runs.len())),
         TrialOutcome::GenFaulted(_) | TrialOutcome::Failed { .. } => None,
     }
 }
 
-/// What `passed` returns for trial 3 of a counter with a suffix of two commands.
+/// What `suffix_and_run_counts_if_passed` returns for trial 3 of a counter with a suffix of two commands.
 fn passed_counter<R: Threads + Wait>(
     rt: &R,
     alloc: Global,
@@ -30,7 +30,7 @@ fn passed_counter<R: Threads + Wait>(
         suffix: 2,
         ..Settings::default()
     };
-    passed(&record_of(rt, alloc, COUNTER, settings, 3, counter)?)
+    suffix_and_run_counts_if_passed(&record_of(rt, alloc, COUNTER, settings, 3, counter)?)
 }
 
 #[test]
@@ -42,26 +42,26 @@ fn a_counter_passes(rt: HostRuntime) -> Result<(), Fail> {
 }
 
 /// The trial's number, and the command's number and the callback that faults, if no case is generated.
-fn faulted(record: &Record) -> Option<(u64, u32, Callback)> {
+fn genfault_place_if_faulted(record: &Record) -> Option<(u64, u32, Callback)> {
     match record.outcome() {
         TrialOutcome::GenFaulted(place) => Some((record.number(), place.command, place.callback)),
         TrialOutcome::Passed { .. } | TrialOutcome::Failed { .. } => None,
     }
 }
 
-/// What `faulted` returns for trial 7 of `TOP`, a number that cannot grow.
+/// What `genfault_place_if_faulted` returns for trial 7 of `TOP`, a number that cannot grow.
 fn faulted_top<R: Threads + Wait>(
     rt: &R,
     alloc: Global,
     system: &mut BoxedSystem,
 ) -> Option<(u64, u32, Callback)> {
-    faulted(&record_of(rt, alloc, TOP, Settings::default(), 7, system)?)
+    genfault_place_if_faulted(&record_of(rt, alloc, TOP, Settings::default(), 7, system)?)
 }
 
 #[test]
 fn a_callback_faults(rt: HostRuntime) -> Result<(), Fail> {
     let alloc = rt.alloc();
-    let mut system: BoxedSystem = Box::new(alloc, Resets::new(0))?;
+    let mut system: BoxedSystem = Box::new(alloc, LimitedResets::new(0))?;
     assert!(rt; faulted_top(&rt, alloc, &mut system) == Some((7, 1, Callback::Next)));
     Ok(())
 }
@@ -80,7 +80,7 @@ fn fault<R: Threads + Wait>(
 #[test]
 fn a_refused_reset_ends_a_trial(rt: HostRuntime) -> Result<(), Fail> {
     let alloc = rt.alloc();
-    let mut no_reset: BoxedSystem = Box::new(alloc, Resets::new(0))?;
+    let mut no_reset: BoxedSystem = Box::new(alloc, LimitedResets::new(0))?;
     let settings = Settings::default();
     assert!(rt; fault(&rt, alloc, settings, &mut no_reset) == Some(TrialFault::ResetFailed));
     Ok(())
@@ -90,7 +90,7 @@ fn a_refused_reset_ends_a_trial(rt: HostRuntime) -> Result<(), Fail> {
 #[test]
 fn a_refused_second_reset_ends_a_trial(rt: HostRuntime) -> Result<(), Fail> {
     let alloc = rt.alloc();
-    let mut second_reset: BoxedSystem = Box::new(alloc, Resets::new(1))?;
+    let mut second_reset: BoxedSystem = Box::new(alloc, LimitedResets::new(1))?;
     let settings = one_command();
     assert!(rt; fault(&rt, alloc, settings, &mut second_reset) == Some(TrialFault::ResetFailed));
     Ok(())

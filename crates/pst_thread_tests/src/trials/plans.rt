@@ -1,7 +1,7 @@
 //! Plans that the tests start from.
 
 use pst_system::BoxedSystem;
-use pst_tests::support::typed_of;
+use pst_tests::support::typed_model_of_text;
 use pst_trial::{Plan, Record, Settings, trial};
 use std::alloc::Global;
 use std::sync::{Arc, Wait};
@@ -21,7 +21,7 @@ pub(crate) fn plan_of(alloc: Global, text: &str, settings: Settings) -> Option<A
     if !settings.are_in_range() {
         return None;
     }
-    let plan = Plan::new(alloc, typed_of(alloc, text)?, settings).ok()?;
+    let plan = Plan::new(alloc, typed_model_of_text(alloc, text)?, settings).ok()?;
     Arc::new(alloc, plan).ok()
 }
 

@@ -93,7 +93,11 @@ fn is_accepted(alloc: Global, typed: &Typed, case: &Case) -> Result<bool, AllocE
 }
 
 /// The sizes of the first case and the last of a trial that fails, and whether the last case is still accepted.
-fn failure(alloc: Global, typed: &Typed, record: &Record) -> Option<(usize, usize, bool)> {
+fn sizes_and_validity_if_failed(
+    alloc: Global,
+    typed: &Typed,
+    record: &Record,
+) -> Option<(usize, usize, bool)> {
     let TrialOutcome::Failed { shrunk, .. } = record.outcome() else {
         return None;
     };
@@ -106,7 +110,7 @@ fn failure(alloc: Global, typed: &Typed, record: &Record) -> Option<(usize, usiz
     Some((first, size(last), accepted))
 }
 
-/// What `failure` returns for trial `number` of a plan.
+/// What `sizes_and_validity_if_failed` returns for trial `number` of a plan.
 fn failure_of<R: Threads + Wait>(
     rt: &R,
     alloc: Global,
@@ -115,10 +119,10 @@ fn failure_of<R: Threads + Wait>(
     system: &mut BoxedSystem,
 ) -> Option<(usize, usize, bool)> {
     let record = trial(rt, alloc, plan, number, system).ok()?;
-    failure(alloc, plan.typed(), &record)
+    sizes_and_validity_if_failed(alloc, plan.typed(), &record)
 }
 
-/// What `failure` returns for the first trial that fails.
+/// What `sizes_and_validity_if_failed` returns for the first trial that fails.
 fn first_failure<R: Threads + Wait>(
     rt: &R,
     alloc: Global,
@@ -151,7 +155,8 @@ fn a_race_is_found(rt: HostRuntime) -> Result<(), Fail> {
     Ok(())
 }
 
-/// What `failure` returns for trial 0 of a counter on the system that answers 0, so that every `inc` is wrong.
+/// What `sizes_and_validity_if_failed` returns for trial 0 of a counter on the system that answers 0, so that every
+/// `inc` is wrong.
 fn failure_on_stuck<R: Threads + Wait>(
     rt: &R,
     alloc: Global,

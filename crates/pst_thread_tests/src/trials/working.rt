@@ -8,7 +8,7 @@ use pst_ledger::{Cause, Closed, Entry, Ledger};
 use pst_samples::Stuck;
 use pst_system::BoxedSystem;
 use pst_tests::support::ONE;
-use pst_tests::systems::Resets;
+use pst_tests::systems::LimitedResets;
 use pst_trial::{Plan, Record, Settings, may_share_records, trial};
 use std::alloc::Global;
 use std::sync::{Arc, Wait};
@@ -83,7 +83,12 @@ fn a_worker_deposits_each_record(rt: HostRuntime) -> Result<(), Fail> {
 /// How many of the twelve entries are lost for a refused reset, when the worker has a system that refuses every reset.
 fn lost_without_resets<R: Threads + Wait + Sync>(rt: &R, alloc: Global) -> Option<usize> {
     let plan = twelve(alloc)?;
-    let closed = closed_by_one(rt, alloc, &plan, Box::new(alloc, Resets::new(0)).ok()?)?;
+    let closed = closed_by_one(
+        rt,
+        alloc,
+        &plan,
+        Box::new(alloc, LimitedResets::new(0)).ok()?,
+    )?;
     let entries = closed.entries().iter();
     Some(
         entries

@@ -15,21 +15,21 @@ returns-in_default-get c =
     let here : c.in-Some.index ≡ c.args.number - 1 = c.in-Some.ensures.1 in
     λ h. let within : c.args.number ≤ length c.args.all.now = h.1 in absurd (omega arith)
 
-pub draw_search_as_graphviz-requires-clause-shaped : goal.draw_search_as_graphviz-requires-clause-shaped
-draw_search_as_graphviz-requires-clause-shaped c =
+pub graphviz_text_of_item_search-requires-clause-shaped : goal.graphviz_text_of_item_search-requires-clause-shaped
+graphviz_text_of_item_search-requires-clause-shaped c =
     let found = c.in-Some-get.ensures.lookup in
     (lawful_here c.args.compiled.now c.args.runs.now c.in-Some.index c.in-Some-get.run'.now found.3.0 found.1
     c.requires.lawful).model
 
-pub draw_search_as_graphviz-requires-clause-matches : goal.draw_search_as_graphviz-requires-clause-matches
-draw_search_as_graphviz-requires-clause-matches c =
+pub graphviz_text_of_item_search-requires-clause-matches : goal.graphviz_text_of_item_search-requires-clause-matches
+graphviz_text_of_item_search-requires-clause-matches c =
     let found = c.in-Some-get.ensures.lookup in
     history_matches c.args.compiled.now c.in-Some-get.run'.now
     (lawful_here c.args.compiled.now c.args.runs.now c.in-Some.index c.in-Some-get.run'.now found.3.0 found.1
     c.requires.lawful)
 
-pub draw_search_as_graphviz-requires-clause-judged : goal.draw_search_as_graphviz-requires-clause-judged
-draw_search_as_graphviz-requires-clause-judged c =
+pub graphviz_text_of_item_search-requires-clause-judged : goal.graphviz_text_of_item_search-requires-clause-judged
+graphviz_text_of_item_search-requires-clause-judged c =
     let m = c.args.compiled.now in
     let runs = c.args.runs.now in
     let all = c.args.all.now in

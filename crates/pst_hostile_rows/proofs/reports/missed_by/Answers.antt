@@ -5,8 +5,8 @@ use Rattle.pst_report.specs.InOrder.{AreOf}
 use Rattle.pst_trial.specs.PlanView.{PlanView}
 use Rattle.pst_hostile_rows.proofs.reports.missed_by.Goals as goal
 
-pub misses-requires-clause-records : goal.misses-requires-clause-records
-misses-requires-clause-records g c =
+pub count_missed_report_prefixes-requires-clause-records : goal.count_missed_report_prefixes-requires-clause-records
+count_missed_report_prefixes-requires-clause-records g c =
     let Of : PlanView → Type 0 = λ p. AreOf p 0 c.in-Ok.closed in
     let same : arc_value c.in_ok-clone.field-0 ≡ c.deref.result.now =
     c.in_ok-clone.ensures.cases ∙ sym c.deref.ensures in

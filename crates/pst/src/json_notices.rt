@@ -1,6 +1,6 @@
 //! The errors and warnings on a model, as JSON.
 
-use crate::words::arguments_select_json;
+use crate::words::is_json_selected;
 use clap::ArgMatches;
 use pst_messages::{MessageScope, input_error_notices, input_warning_notices};
 use pst_rejudge::{Field, Name, add_number_field, add_text_field, json_object_line};
@@ -9,7 +9,7 @@ use pst_value::Text;
 use std::alloc::{AllocError, Global};
 
 /// Returns the strings as texts.
-fn json_texts_of_strings(alloc: Global, strings: Vec<String>) -> Result<Vec<Text>, AllocError> {
+fn texts_of_strings(alloc: Global, strings: Vec<String>) -> Result<Vec<Text>, AllocError> {
     let mut texts = Vec::new(alloc);
     for string in strings {
         texts.push(Text::from_string(string))?;
@@ -48,7 +48,7 @@ fn add_message_and_note_fields(
         lines,
     } = notice;
     fields.push(Field::Words(Name::Message, Text::from_string(what)))?;
-    fields.push(Field::Lines(Name::Notes, json_texts_of_strings(alloc, notes)?))?;
+    fields.push(Field::Lines(Name::Notes, texts_of_strings(alloc, notes)?))?;
     if !lines.is_empty() {
         fields.push(Field::Words(Name::Explanation, Text::from_string(lines)))?;
     }
@@ -101,8 +101,8 @@ fn json_lines_of_errors_else_warnings(
 }
 
 /// Returns whether the errors and warnings are part of the output.
-pub fn output_includes_notices(word: &str, words: &ArgMatches<'_>) -> bool {
-    word == "check" && arguments_select_json(words)
+pub fn has_notices_in_output(word: &str, words: &ArgMatches<'_>) -> bool {
+    word == "check" && is_json_selected(words)
 }
 
 /// Returns the objects of the errors and warnings on a model, a line each. There are no lines if the arguments forbid

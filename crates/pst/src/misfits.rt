@@ -13,7 +13,7 @@ pub type SharedMisfits = Arc<Misfits, Global>;
 
 /// Returns an empty list for the misfits of `run`. `None` for other commands, if the arguments forbid messages, and if
 /// an allocation fails.
-pub fn empty_misfits_if_run_is_not_quiet(
+pub fn new_misfits_if_run_is_not_quiet(
     alloc: Global,
     matches: &ArgMatches<'_>,
 ) -> Option<SharedMisfits> {

@@ -53,8 +53,8 @@ pub fn stop_file_name_from_arguments<'a>(matches: &ArgMatches<'a>) -> Option<&'a
     }
 }
 
-/// Whether the file is there that ends a campaign, in a place that threads share. None if the arguments name no file.
-pub fn flag_whether_stop_file_is_there<R: Files>(
+/// A shared flag: whether the file that ends a campaign exists. `None` if the arguments name no file.
+pub fn shared_stop_file_flag<R: Files>(
     rt: &R,
     alloc: Global,
     matches: &ArgMatches<'_>,

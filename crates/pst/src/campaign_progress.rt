@@ -1,6 +1,6 @@
 //! A line that displays the progress of a campaign, on a terminal.
 
-use crate::telling::DisplayedRate;
+use crate::item_progress::DisplayedRate;
 use pst_campaign::{Watch, did_not_pass};
 use pst_ledger::Cause;
 use pst_trial::{Record, ShrinkProgress};
@@ -101,7 +101,7 @@ impl CampaignProgress {
     /// Writes the line. `milliseconds` is the time since the campaign began, and `last` is when the last trial ended. If
     /// the line cannot be written, the campaign continues.
     ///
-    /// While a trial is shrunk, the terminal cuts the line off where it would go on in a next row.
+    /// While a trial is shrunk, the terminal cuts the line off at its right edge.
     fn write_line<R: Eprint>(&self, rt: &R, last: LastTrialEnd, milliseconds: u64) {
         if last.count == 0 {
             return self.write_line_before_first_trial_ends(rt);
@@ -158,7 +158,7 @@ struct DisplayedProgress {
 }
 
 /// Writes the line again and again until the campaign is over, and takes it away then.
-fn rewrite_progress_line_until_over<R: Wait + Eprint>(rt: &R, displayed: &DisplayedProgress) {
+fn rewrite_campaign_progress_until_over<R: Wait + Eprint>(rt: &R, displayed: &DisplayedProgress) {
     let mut milliseconds = 0u64;
     let mut last = LastTrialEnd {
         count: 0,
@@ -209,7 +209,7 @@ impl ProgressDisplay {
         let own = Arc::try_clone(&displayed)?;
         let rt = *rt;
         let thread = Builder::new()
-            .spawn(&rt, move || rewrite_progress_line_until_over(&rt, &own))
+            .spawn(&rt, move || rewrite_campaign_progress_until_over(&rt, &own))
             .ok();
         Ok(ProgressDisplay { displayed, thread })
     }

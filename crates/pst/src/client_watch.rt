@@ -1,6 +1,6 @@
 //! Lines on standard error that say which client does not answer, and that resets fail.
 
-use crate::interrupting::stop_file_name_from_arguments;
+use crate::stop_file::stop_file_name_from_arguments;
 use crate::systems::{ChosenSystems, systems_from_arguments};
 use clap::ArgMatches;
 use pst_clients::{ClientWaits, Notes};
@@ -28,7 +28,7 @@ struct WatchedClients {
 
 /// A client, as it was a second ago.
 #[derive(Clone, Copy, Drop)]
-struct ClientWait {
+struct SilenceTimer {
     /// The line that it had not answered, if there was one.
     line: Option<u64>,
     /// For how many seconds.
@@ -37,20 +37,20 @@ struct ClientWait {
     next: u64,
 }
 
-impl ClientWait {
-    /// A client that was just asked a line, if there is one.
-    fn starting_at_line(line: Option<u64>) -> ClientWait {
-        ClientWait {
+impl SilenceTimer {
+    /// A client that has just got the line `line`, or has none to answer.
+    fn starting_at_line(line: Option<u64>) -> SilenceTimer {
+        SilenceTimer {
             line,
             seconds: 0,
             next: FIRST,
         }
     }
 
-    /// Counts a second in which it may have answered. The answer is whether a line is to be written.
+    /// Counts a second. Returns whether a line on it is due.
     fn count_second_and_check_if_report_is_due(&mut self, line: Option<u64>) -> bool {
         if line.is_none() || line != self.line {
-            *self = ClientWait::starting_at_line(line);
+            *self = SilenceTimer::starting_at_line(line);
             return false;
         }
         self.seconds = self.seconds.saturating_add(1);
@@ -63,7 +63,7 @@ impl ClientWait {
 }
 
 /// Writes to standard error that a client does not answer its line.
-fn report_silent_client<R: Eprint>(
+fn print_silent_client_to_stderr<R: Eprint>(
     rt: &R,
     alloc: Global,
     waits: &ClientWaits,
@@ -97,14 +97,11 @@ fn print_that_resets_fail_to_stderr<R: Eprint>(rt: &R, has_stop_file: bool) {
     let _ = eprintln!(rt; "pst: the reset failed {MANY} times in a row: is the server up?{advice}");
 }
 
-/// Returns that no client was asked a line.
-fn waits_of_clients_without_line(
-    alloc: Global,
-    count: usize,
-) -> Result<Vec<ClientWait>, AllocError> {
+/// Returns the waits of `count` clients, none of which has a line to answer.
+fn new_client_waits(alloc: Global, count: usize) -> Result<Vec<SilenceTimer>, AllocError> {
     let mut clients = Vec::with_capacity(alloc, count)?;
     for _ in 0..count {
-        clients.push(ClientWait::starting_at_line(None))?;
+        clients.push(SilenceTimer::starting_at_line(None))?;
     }
     Ok(clients)
 }
@@ -114,24 +111,24 @@ fn count_second_and_report_silent_clients<R: Eprint>(
     rt: &R,
     alloc: Global,
     waits: &ClientWaits,
-    clients: &mut [ClientWait],
+    clients: &mut [SilenceTimer],
 ) {
     for place in 0..clients.len() {
         if clients[place].count_second_and_check_if_report_is_due(waits.unanswered_line_id(place)) {
-            report_silent_client(rt, alloc, waits, place, clients[place].seconds);
+            print_silent_client_to_stderr(rt, alloc, waits, place, clients[place].seconds);
         }
     }
 }
 
-/// Looks each second which clients have not answered, until it is over, and reports those that are silent for long.
+/// Checks each second which clients have not answered, until the work is over, and reports those that are silent for long.
 /// Also reports, once, that resets fail, if `MANY` failed in a row.
-fn report_client_trouble_until_over<R: Wait + Eprint>(
+fn print_client_trouble_until_over<R: Wait + Eprint>(
     rt: &R,
     alloc: Global,
     watched: &WatchedClients,
 ) -> Result<(), AllocError> {
     let waits = watched.notes.waits();
-    let mut clients = waits_of_clients_without_line(alloc, waits.len())?;
+    let mut clients = new_client_waits(alloc, waits.len())?;
     let mut is_said = false;
     for _ in rt.forever() {
         watched.parker.park_timeout(rt, Duration::from_secs(1));
@@ -197,7 +194,7 @@ pub fn start_client_watch_unless_quiet<R: Threads + Wait + Eprint + Copy + Drop 
     let own = Arc::try_clone(&watched).ok()?;
     let thread = Builder::new()
         .spawn(&rt, move || {
-            let _ = report_client_trouble_until_over(&rt, alloc, &own);
+            let _ = print_client_trouble_until_over(&rt, alloc, &own);
         })
         .ok()?;
     Some(ClientWatch { watched, thread })

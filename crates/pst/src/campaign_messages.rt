@@ -2,9 +2,9 @@
 //! without a case has no case.
 ghost use Rattle.pst_trial.specs.Settings.{AreInRange};
 
-use crate::beginning;
+use crate::least_failure;
 use pst_cli::CampaignNotes;
-use pst_messages::explain_generation_fault;
+use pst_messages::explanation_why_trial_has_no_case;
 use pst_trial::Settings;
 use std::alloc::Global;
 
@@ -18,7 +18,7 @@ fn print_why_trial_has_no_case<R: Eprint>(
 )
     requires { AreInRange settings }
 {
-    let text = explain_generation_fault(
+    let text = explanation_why_trial_has_no_case(
         alloc,
         input,
         settings.seed,
@@ -33,7 +33,7 @@ fn print_why_trial_has_no_case<R: Eprint>(
 /// Writes to standard error why no interleaving explains the least failure of a campaign, if it has a failure; the
 /// failure with the fewest calls, if another one has fewer; and why the first trial without a case has none, if there
 /// is such a trial. If an allocation fails or the text cannot be written, the report and the status remain without it.
-pub fn print_why_campaign_failed_to_stderr<R: Eprint>(
+pub fn print_campaign_explanations_to_stderr<R: Eprint>(
     rt: &R,
     alloc: Global,
     settings: Settings,
@@ -43,7 +43,7 @@ pub fn print_why_campaign_failed_to_stderr<R: Eprint>(
     requires { AreInRange settings }
 {
     if let Some((case, history)) = notes.least.take() {
-        beginning::print_failure_explanation_to_stderr(rt, alloc, input, case, history);
+        least_failure::print_least_failure_with_note_to_stderr(rt, alloc, input, case, history);
     }
     if let Some(shorter) = notes.shorter {
         let calls = if shorter.commands == 1 {

@@ -74,7 +74,8 @@ fn add_rate(line: &mut String, alloc: Global, rate: DisplayedRate) -> Result<(),
     line.push_str(unit)
 }
 
-/// The line after some milliseconds, as `1,204 of 10,000 explained, 512 a second, 17 s left`. It leaves out what is not known.
+/// The line after some milliseconds, as `1,204 of 10,000 explained, 512 a second, 17 s left`. It leaves out what is not
+/// known.
 fn progress_line(
     alloc: Global,
     steps: &ProgressCounter,
@@ -105,7 +106,11 @@ fn progress_line(
 }
 
 /// Writes the line again and again until the work is over, and takes it away then.
-fn display_progress_until_over<R: Wait + Eprint>(rt: &R, alloc: Global, told: &DisplayedSteps) {
+fn rewrite_item_progress_until_over<R: Wait + Eprint>(
+    rt: &R,
+    alloc: Global,
+    told: &DisplayedSteps,
+) {
     let mut milliseconds = 0u64;
     for _ in rt.forever() {
         told.parker.park_timeout(rt, Duration::from_millis(PAUSE));
@@ -124,20 +129,20 @@ fn display_progress_until_over<R: Wait + Eprint>(rt: &R, alloc: Global, told: &D
 
 /// The steps of a command, and the thread that displays how many are done, if there is one.
 #[derive(Drop)]
-pub struct StepsDisplay {
+pub struct ItemProgressDisplay {
     told: Arc<DisplayedSteps, Global>,
     thread: Option<JoinHandle<()>>,
 }
 
-impl StepsDisplay {
+impl ItemProgressDisplay {
     /// Begins the steps of a command. `word` is what is done with an item, as `explained`. From now on a line displays the
     /// steps, if it is wanted and there is a thread for it.
     pub fn begin<R: Threads + Wait + Eprint + Copy + Drop + Send + 'static>(
         rt: &R,
         alloc: Global,
-        is_told: bool,
+        has_progress_line: bool,
         word: &'static str,
-    ) -> Result<StepsDisplay, AllocError> {
+    ) -> Result<ItemProgressDisplay, AllocError> {
         let told = DisplayedSteps {
             steps: ProgressCounter::new(),
             word,
@@ -145,15 +150,18 @@ impl StepsDisplay {
             parker: Parker::new(),
         };
         let told = Arc::new(alloc, told)?;
-        if !is_told {
-            return Ok(StepsDisplay { told, thread: None });
+        if !has_progress_line {
+            return Ok(ItemProgressDisplay { told, thread: None });
         }
         let own = Arc::try_clone(&told)?;
         let rt = *rt;
         let thread = Builder::new()
-            .spawn(&rt, move || display_progress_until_over(&rt, alloc, &own))
+            .spawn(
+                &rt,
+                move || rewrite_item_progress_until_over(&rt, alloc, &own),
+            )
             .ok();
-        Ok(StepsDisplay { told, thread })
+        Ok(ItemProgressDisplay { told, thread })
     }
 
     /// The steps.
@@ -163,7 +171,7 @@ impl StepsDisplay {
 
     /// Ends the thread, and waits for it.
     pub fn end<R: Threads + Wait>(self, rt: &R) {
-        let StepsDisplay { told, thread } = self;
+        let ItemProgressDisplay { told, thread } = self;
         told.is_over.store(true, Ordering::SeqCst);
         told.parker.unpark();
         if let Some(thread) = thread {

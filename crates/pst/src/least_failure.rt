@@ -1,7 +1,7 @@
 //! The explanation of the least failure of a campaign, with a note if its first call is wrong or faults in the initial
 //! state, or if no two of its calls were made at the same time.
 
-use crate::explained;
+use crate::run_explanation;
 use pst_case::{Case, Command, History, Reply};
 use pst_cli::explanation_of_run_unless_explained;
 use pst_driver::has_only_value_replies;
@@ -132,7 +132,7 @@ fn note_if_first_call_is_wrong(
 
 /// Writes why no interleaving explains the least failure of a campaign, to standard error, and a note if one applies.
 /// The model is at the beginning of `input`. If an allocation fails or a text cannot be written, nothing else is said.
-pub fn print_failure_explanation_to_stderr<R: Eprint>(
+pub fn print_least_failure_with_note_to_stderr<R: Eprint>(
     rt: &R,
     alloc: Global,
     input: &[u8],
@@ -147,7 +147,7 @@ pub fn print_failure_explanation_to_stderr<R: Eprint>(
         ""
     };
     let note = note_if_first_call_is_wrong(alloc, input, &case, &history);
-    explained::print_run_explanation_to_stderr(
+    run_explanation::print_run_explanation_to_stderr(
         rt,
         alloc,
         "the least failure:",
