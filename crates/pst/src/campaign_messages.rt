@@ -32,18 +32,21 @@ fn print_why_trial_has_no_case<R: Eprint>(
 
 /// Writes to standard error why no interleaving explains the least failure of a campaign, if it has a failure; the
 /// failure with the fewest calls, if another one has fewer; and why the first trial without a case has none, if there
-/// is such a trial. If an allocation fails or the text cannot be written, the report and the status remain without it.
+/// is such a trial. Lines of explanations have at most `line_width` bytes. If an allocation fails or the text cannot be written, the report and the status remain without it.
 pub fn print_campaign_explanations_to_stderr<R: Eprint>(
     rt: &R,
     alloc: Global,
     settings: Settings,
     input: &[u8],
     notes: &mut CampaignNotes,
+    line_width: usize,
 )
     requires { AreInRange settings }
 {
     if let Some((case, history)) = notes.least.take() {
-        least_failure::print_least_failure_with_note_to_stderr(rt, alloc, input, case, history);
+        least_failure::print_least_failure_with_note_to_stderr(
+            rt, alloc, input, case, history, line_width,
+        );
     }
     if let Some(shorter) = notes.shorter {
         let calls = if shorter.commands == 1 {

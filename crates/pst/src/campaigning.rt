@@ -36,6 +36,8 @@ struct CampaignOptions<'a> {
     is_quiet: bool,
     page: CampaignPageOptions<'a>,
     input: Input<'a>,
+    /// The width of lines of explanations, in bytes.
+    line_width: usize,
 }
 
 /// Runs a campaign. If standard error is a terminal, a line on it displays the progress, unless the arguments forbid it.
@@ -164,7 +166,14 @@ fn run_campaign_with_page_and_messages<
     };
     let status = status.or_worse(page.write(rt, alloc, input, notes));
     if !options.is_quiet {
-        campaign_messages::print_campaign_explanations_to_stderr(rt, alloc, settings, input, notes);
+        campaign_messages::print_campaign_explanations_to_stderr(
+            rt,
+            alloc,
+            settings,
+            input,
+            notes,
+            options.line_width,
+        );
         if notes.first_genfault.is_none() {
             warnings::print_warnings_to_stderr(rt, alloc, options.input.files, input);
         }
@@ -226,6 +235,16 @@ fn print_warning_if_stop_file_exists<R: Eprint>(
     }
 }
 
+/// Writes to standard error that no case has calls in two branches, if the settings leave too few commands for them.
+fn print_note_if_no_calls_are_parallel<R: Eprint>(rt: &R, settings: Settings) {
+    if settings.branches >= 2 && settings.commands < settings.suffix.saturating_add(2) {
+        let _ = eprintln!(rt;
+            "pst: no two calls are made at the same time: --commands {} counts the calls after the branches too (--suffix {}), and two branches need two more",
+            settings.commands, settings.suffix
+        );
+    }
+}
+
 /// Runs a campaign with a worker for each of the systems, if there are some, and saves its failures if the arguments say
 /// so. Unless the arguments forbid it, a line on standard error displays the progress, if that is a terminal, and
 /// explanations and warnings follow after the report.
@@ -256,9 +275,11 @@ pub fn run_campaign_subcommand<
         is_quiet: words.get_flag("quiet"),
         page: CampaignPageOptions::from_arguments(words, input),
         input,
+        line_width: context.line_width,
     };
     if !options.is_quiet {
         print_warning_if_stop_file_exists(rt, words, context.ending);
+        print_note_if_no_calls_are_parallel(rt, settings);
     }
     if let Some(folder) = words.get_str("save") {
         return match FailureSaver::begin_by_making_folder(rt, words, folder, settings.seed, name) {

@@ -19,4 +19,6 @@ pub struct SubcommandContext<'a, 'm> {
     pub ending: &'a EarlyStop,
     /// Which of the standard files are terminals.
     pub terminals: Terminals,
+    /// The width of lines of explanations on standard error, in bytes.
+    pub line_width: usize,
 }

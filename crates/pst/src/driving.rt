@@ -19,12 +19,14 @@ use std::alloc::Global;
 use std::sync::Wait;
 use std::thread::Threads;
 
-/// Writes to standard error why the first broken run is broken, and how many other runs are broken.
+/// Writes to standard error why the first broken run is broken, in lines of at most `line_width` bytes, and how many other
+/// runs are broken.
 fn print_first_broken_run_and_count_rest<R: Eprint>(
     rt: &R,
     alloc: Global,
     input: &[u8],
     counts: &mut ItemResultCounts,
+    line_width: usize,
 ) {
     let Some((item, run)) = counts.first_broken.take() else {
         return;
@@ -43,6 +45,7 @@ fn print_first_broken_run_and_count_rest<R: Eprint>(
         input,
         shaped.into_case(),
         history,
+        line_width,
     );
     let others = counts.broken.saturating_sub(1);
     if others > 0 {
@@ -59,6 +62,8 @@ struct DriveOptions {
     is_json_selected: bool,
     /// Whether standard error displays the progress.
     has_progress_line: bool,
+    /// The width of lines of explanations, in bytes.
+    line_width: usize,
 }
 
 /// Drives each item of the input, and writes the runs and their verdicts.
@@ -136,7 +141,7 @@ fn drive_items_with_progress_and_messages<
         return Status::Lost;
     }
     misfits::print_misfits_to_stderr(rt, alloc, misfits);
-    print_first_broken_run_and_count_rest(rt, alloc, input, counts);
+    print_first_broken_run_and_count_rest(rt, alloc, input, counts, options.line_width);
     status
 }
 
@@ -164,6 +169,7 @@ pub fn drive_items_on_system_or_refuse<
         repeats: words.get_one("repeats"),
         is_json_selected: is_json_selected(words),
         has_progress_line: context.terminals.errors,
+        line_width: context.line_width,
     };
     match context.misfits {
         Some(misfits) => {

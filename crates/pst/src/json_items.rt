@@ -1,7 +1,7 @@
 //! Items that files spell as JSON.
 
 use pst_messages::{files_with_json_as_trees, find_first_json_item};
-use pst_sexpr::MAX_BYTES;
+use pst_sexpr::{FaultKind, MAX_BYTES, read};
 use pst_sources::{SourceFile, joined};
 use pst_typing::{ModelFile, load};
 use std::alloc::{AllocError, Global};
@@ -52,9 +52,34 @@ fn source_files_cut_to_byte_count<'a>(
     Ok(all)
 }
 
+/// Returns the files with blanks in place of the bytes of JSON items.
+fn source_files_with_json_items_blanked<'a>(
+    alloc: Global,
+    files: &[SourceFile<'a>],
+) -> Result<Vec<SourceFile<'a>>, AllocError> {
+    let mut all = Vec::new(alloc);
+    for file in files {
+        let name = file.name;
+        let bytes = text_with_json_items_blanked(alloc, file.bytes.as_slice())?;
+        all.push(SourceFile { name, bytes })?;
+    }
+    Ok(all)
+}
+
+/// Returns whether the text of files is one of trees.
+fn are_files_of_trees(alloc: Global, files: &[SourceFile<'_>]) -> Result<bool, AllocError> {
+    let text = joined(alloc, files)?;
+    match read(alloc, text.as_slice()) {
+        Ok(_) => Ok(true),
+        Err(fault) if fault.kind == FaultKind::NoMemory => Err(AllocError),
+        Err(_) => Ok(false),
+    }
+}
+
 /// Returns the files with each JSON item as its tree, or `None` if they have none. The model is a tree, before the first
-/// JSON item; if it is refused, no more than what is before this item is left. Files of more than `MAX_BYTES` stay as they
-/// are, and are refused.
+/// JSON item; if it is refused, no more than what is before this item is left. If what is around the items is no text of
+/// trees, they are blanks: then the input is refused by the same fault, at its place in the files. Files of more than
+/// `MAX_BYTES` stay as they are, and are refused.
 pub fn source_files_with_json_as_trees_or_cut<'a>(
     alloc: Global,
     files: &[SourceFile<'a>],
@@ -68,11 +93,14 @@ pub fn source_files_with_json_as_trees_or_cut<'a>(
     }
     let head = text.as_slice().get(..place).unwrap_or(&[]);
     match load(alloc, head)? {
-        Ok(ModelFile { typed, trees: _ }) => Ok(Some(files_with_json_as_trees(
-            alloc,
-            typed.source(),
-            files,
-        )?)),
+        Ok(ModelFile { typed, trees: _ }) => {
+            let blanked = source_files_with_json_items_blanked(alloc, files)?;
+            if are_files_of_trees(alloc, blanked.as_slice())? {
+                Ok(Some(files_with_json_as_trees(alloc, typed.source(), files)?))
+            } else {
+                Ok(Some(blanked))
+            }
+        }
         Err(_) => Ok(Some(source_files_cut_to_byte_count(alloc, place, files)?)),
     }
 }

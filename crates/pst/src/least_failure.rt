@@ -8,9 +8,6 @@ use pst_driver::has_only_value_replies;
 use pst_value::Items;
 use std::alloc::{AllocError, Global};
 
-/// The width of lines.
-const WIDTH: usize = 80;
-
 /// The words of an explanation of one wrong answer.
 const ONE_WRONG: &str = "This answer cannot be right";
 
@@ -23,8 +20,8 @@ const NOTE: &str = "  The first call is already wrong in the initial state of th
 /// The note on a run in which no two calls were made at the same time.
 const IN_TURN_NOTE: &str =
     "  No two calls of this run were made at the same time, so it shows no race. Is
-  the model right? If each branch has a client of its own: do all clients use the
-  same system, or does each keep a state for itself?
+  the model right? Has each worker (PST_WORKER) a system of its own? Do all
+  clients of a worker use this system, or does each keep a state for itself?
 ";
 
 /// The first words of an explanation of a fault.
@@ -121,7 +118,7 @@ fn note_if_first_call_is_wrong(
         return Ok("");
     };
     let (case, history) = run_of_one_command(alloc, command, reply)?;
-    match explanation_of_run_unless_explained(alloc, input, case, history, WIDTH)? {
+    match explanation_of_run_unless_explained(alloc, input, case, history, usize::MAX)? {
         Some(text) => match std::str::from_utf8(text.as_slice()) {
             Ok(text) => Ok(note_if_explanation_finds_call_wrong(text)),
             Err(_) => Ok(""),
@@ -130,14 +127,15 @@ fn note_if_first_call_is_wrong(
     }
 }
 
-/// Writes why no interleaving explains the least failure of a campaign, to standard error, and a note if one applies.
-/// The model is at the beginning of `input`. If an allocation fails or a text cannot be written, nothing else is said.
+/// Writes why no interleaving explains the least failure of a campaign, to standard error, and a note if one applies. The
+/// lines of the explanation have at most `line_width` bytes. The model is at the beginning of `input`. If an allocation fails or a text cannot be written, nothing else is said.
 pub fn print_least_failure_with_note_to_stderr<R: Eprint>(
     rt: &R,
     alloc: Global,
     input: &[u8],
     case: Case,
     history: History,
+    line_width: usize,
 ) {
     let in_turn = if has_at_most_one_branch_with_commands(&case)
         && has_only_value_replies(&history)
@@ -154,6 +152,7 @@ pub fn print_least_failure_with_note_to_stderr<R: Eprint>(
         input,
         case,
         history,
+        line_width,
     );
     if let Ok(note) = note {
         let note = if note.is_empty() { in_turn } else { note };

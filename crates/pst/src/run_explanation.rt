@@ -4,11 +4,8 @@ use pst_case::{Case, History};
 use pst_cli::explanation_of_run_unless_explained;
 use std::alloc::Global;
 
-/// The width of lines.
-const WIDTH: usize = 80;
-
-/// Writes a heading and why no interleaving explains a run, to standard error. The model is at the beginning of
-/// `input`. If an allocation fails or the text cannot be written, the run and its verdict remain without it.
+/// Writes a heading and why no interleaving explains a run, to standard error, in lines of at most `line_width` bytes. The
+/// model is at the beginning of `input`. If an allocation fails or the text cannot be written, the run and its verdict remain without it.
 pub fn print_run_explanation_to_stderr<R: Eprint>(
     rt: &R,
     alloc: Global,
@@ -16,9 +13,10 @@ pub fn print_run_explanation_to_stderr<R: Eprint>(
     input: &[u8],
     case: Case,
     history: History,
+    line_width: usize,
 ) {
-    let Ok(Some(text)) = explanation_of_run_unless_explained(alloc, input, case, history, WIDTH)
-    else {
+    let explanation = explanation_of_run_unless_explained(alloc, input, case, history, line_width);
+    let Ok(Some(text)) = explanation else {
         return;
     };
     if let Ok(text) = std::str::from_utf8(text.as_slice()) {

@@ -11,7 +11,7 @@ use crate::preparing::PreparedInput;
 use crate::reading::output_file_name_from_arguments;
 use crate::result_file::{ResultFile, has_refused_items_in_output, open_to_write_without_emptying};
 use crate::systems::{SystemsError, system_name_from_arguments};
-use crate::terminal::Terminals;
+use crate::terminal::{Terminals, line_width_of_environment_or_default};
 use crate::{
     client_watch, clients, converting, explaining, generating, json_notices, outputs, refused,
     stop_file, streaming, summary, warnings,
@@ -266,6 +266,7 @@ pub fn run_subcommand_while_watching<
         misfits: prepared.misfits.as_deref(),
         ending: &ending,
         terminals,
+        line_width: line_width_of_environment_or_default(&rt),
     };
     let watch = client_watch::start_client_watch_unless_quiet(rt, alloc, matches, &prepared.notes);
     let status = run_subcommand_to_chosen_output(&rt, context, prepared.input(), systems);

@@ -73,11 +73,21 @@ fn line_width_of_environment<R: Env + AllocGlobal>(rt: &R) -> Option<u64> {
         .filter(|columns| *columns > 0)
 }
 
-/// The width of lines: as the arguments say, or else `COLUMNS`, or 80.
-pub fn line_width<R: Env + AllocGlobal>(rt: &R, words: &ArgMatches<'_>) -> usize {
-    let chosen: Option<u64> = words.get_one("width");
-    match chosen.or(line_width_of_environment(rt)) {
+/// The width of lines: `width` if it is given, or else 80; at least 20 and at most 1,000.
+fn line_width_or_default(width: Option<u64>) -> usize {
+    match width {
         Some(width) => width.clamp(LEAST_WIDTH, MOST_WIDTH) as usize,
         None => WIDTH,
     }
+}
+
+/// The width of lines: that of `COLUMNS`, or 80.
+pub fn line_width_of_environment_or_default<R: Env + AllocGlobal>(rt: &R) -> usize {
+    line_width_or_default(line_width_of_environment(rt))
+}
+
+/// The width of lines: as the arguments say, or else `COLUMNS`, or 80.
+pub fn line_width<R: Env + AllocGlobal>(rt: &R, words: &ArgMatches<'_>) -> usize {
+    let chosen: Option<u64> = words.get_one("width");
+    line_width_or_default(chosen.or(line_width_of_environment(rt)))
 }

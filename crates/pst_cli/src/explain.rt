@@ -36,7 +36,8 @@ pub struct ExplainOptions<'a> {
     pub form: ExplanationForm,
 }
 
-/// `text` and after it the explanation of an item in a form. `number` is its number, and `place` where it begins.
+/// `text` and after it the explanation of an item in a form. `number` is its number, and `place` where it begins. The item
+/// and its judgement are parameters of their own, since the contract names each.
 fn append_explanation_or_graph_of_item(
     mut text: Vec<u8>,
     alloc: Global,

@@ -143,6 +143,27 @@ pub fn files_with_json_as_trees<'a>(
     Ok(all)
 }
 
+/// The error on a text `json` with JSON items that is too large with trees in place of them, as `trees` is. It is at the
+/// item that passes the limit.
+fn too_large_as_trees_notice(
+    alloc: Global,
+    json: &[u8],
+    trees: &[u8],
+) -> Result<Notice, AllocError> {
+    let LinePair {
+        json: start,
+        tree: _,
+    } = LinePair::first().advance_to_line_at(json, trees, MAX_BYTES);
+    let first_byte = Span { start: 0, end: 1 };
+    let fault = ByteFault::new(
+        alloc,
+        first_byte,
+        format_args!("as trees, the items up to here have more than {MAX_BYTES} bytes"),
+    )?;
+    let hint = "hint: give the items on standard input, with --stream";
+    Ok(json_fault_notice(alloc, start, fault.with_note(alloc, hint)?))
+}
+
 /// The errors of an input with JSON items whose model is accepted.
 fn errors_of_json_items_and_model(
     alloc: Global,
@@ -152,6 +173,10 @@ fn errors_of_json_items_and_model(
 ) -> Result<Notices, AllocError> {
     let files = files_with_json_as_trees(alloc, typed.source(), input.files)?;
     let text = replace_json_lines_by_trees(alloc, typed.source(), input.bytes)?;
+    if text.len() > MAX_BYTES {
+        let notice = too_large_as_trees_notice(alloc, input.bytes, text.as_slice())?;
+        return Notices::one(alloc, notice);
+    }
     let trees = Input {
         files: files.as_slice(),
         bytes: text.as_slice(),
