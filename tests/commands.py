@@ -1,8 +1,8 @@
 #!/usr/bin/env python3
 """Runs the commands of transcripts and compares what they print: commands.py PROGRAM FILE..
 
-A transcript has blocks that begin with a line `$ COMMAND`, which bash runs at the top of the repository with `pst` for the program
-and $PST_ROOM for a folder of its own.
+A transcript has blocks that begin with a line `$ COMMAND`, which bash runs at the top of the repository with `pst` for the program,
+`./pst` for the launcher, which runs this program, and $PST_ROOM for a folder of its own.
 The lines after it are those of standard output; those that begin with `! ` are of standard error; a line `? N` is the exit status, 0
 if there is none. A line `...` stands for any lines. Lines that begin with `#` between blocks are comments.
 """
@@ -52,7 +52,7 @@ def main(program, *paths):
         os.symlink(os.path.abspath(program), f"{room}/pst")
         os.mkdir(f"{room}/files")
         plain = {name: value for name, value in os.environ.items() if name not in ("COLUMNS", "NO_COLOR")}
-        env = {**plain, "PATH": f"{room}:{os.environ['PATH']}", "PST_ROOM": f"{room}/files"}
+        env = {**plain, "PATH": f"{room}:{os.environ['PATH']}", "PST_ROOM": f"{room}/files", "PST_PROGRAM": f"{room}/pst"}
         for path in paths:
             for number, command, out, errors, (status,) in blocks(path):
                 ran = subprocess.run(["bash", "-c", command], cwd=TOP, env=env, stdin=subprocess.DEVNULL, capture_output=True, timeout=120)

@@ -60,20 +60,20 @@ def main(pst):
         began = time.time()
         status, report, errors = campaign(pst, room, ["-q", "counter"], 1, lambda: time.time() > began + 2)
         done, undrawn = counts(report)
-        check("a sample system", status == 3 and done + undrawn == 100000 and undrawn > 0 and errors == NOTICE, status, report, errors)
+        check("a sample system, quiet", status == 3 and done + undrawn == 100000 and undrawn > 0 and not errors, status, report, errors)
 
         for pause, signals in ((0.01, 1), (60, 2)):
             with open(f"{room}/client.py", "w") as file:
                 file.write(CLIENT.replace("PAUSE", str(pause)))
             has_begun = lambda: os.path.exists(f"{room}/called")
-            arguments = ["-q", "--client", "python3 client.py", "--workers", "2", "--save", "saved"]
+            arguments = ["--client", "python3 client.py", "--workers", "2", "--save", "saved"]
             status, report, errors = campaign(pst, room, arguments, signals, has_begun)
             os.remove(f"{room}/called")
             done, undrawn = counts(report)
             if signals == 1:
-                check("clients", status == 3 and done + undrawn == 100000 and errors == NOTICE, status, report, errors)
+                check("clients", status == 3 and done + undrawn == 100000 and NOTICE in errors, status, report, errors)
             else:
-                check("a second time", status == 130 and not report and errors == NOTICE, status, report, errors)
+                check("a second time", status == 130 and not report and errors.startswith(NOTICE), status, report, errors)
         left = [name for name in os.listdir(room) if name.startswith("tmp.")]
         check("nothing is left", not left, left)
     print(f"{passed} checks passed, {failed} failed")

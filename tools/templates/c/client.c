@@ -44,6 +44,10 @@ static void *answer(void *argument) {
 }
 
 int main(void) {
+  if (!getenv("PST_PIPES")) {
+    fputs("PST_PIPES is not set: run this client by pst campaign --client ./client --shared\n", stderr);
+    return 1;
+  }
   long branches = atol(getenv("PST_BRANCHES"));
   pthread_t threads[4];
   for (long branch = 1; branch <= branches; branch++) pthread_create(&threads[branch - 1], NULL, answer, (void *)branch);

@@ -40,6 +40,10 @@ function answerBranches(pipes, branches, makeSystem) {
 
 // Answers the calls of all branches on systems of this process.
 function serve(makeSystem) {
+  if (!process.env.PST_PIPES) {
+    console.error(`PST_PIPES is not set: run this client by pst campaign --client 'node ${path.relative("", process.argv[1])}' --shared`);
+    process.exit(1);
+  }
   answerBranches(process.env.PST_PIPES, Number(process.env.PST_BRANCHES), makeSystem);
 }
 

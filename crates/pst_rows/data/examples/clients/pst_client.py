@@ -55,6 +55,8 @@ class Systems:
 
 def serve(make_system):
     """Answers the calls of all branches on systems of this process, as `make_system` makes them for `check`."""
+    if "PST_PIPES" not in os.environ:
+        sys.exit(f"PST_PIPES is not set: run this client by pst campaign --client 'python3 {sys.argv[0]}' --shared")
     for thread in Systems(make_system).start(os.environ["PST_PIPES"], int(os.environ["PST_BRANCHES"])):
         thread.join()
 
