@@ -24,7 +24,7 @@ pub fn clap_command_for_fmt<'a>(alloc: Global) -> Result<Command<'a>, AllocError
         .action(ArgAction::SetTrue)
         .help("Rewrites nothing: prints the names of the files that would change");
     Command::new(alloc, "fmt")
-        .about("Lays out files of models and items on lines of 80 columns, comments kept")
+        .about("Lays out files of models and items for 80 columns, comments kept")
         .after_help(help::FMT)
         .arg(files)?
         .arg(check)?
