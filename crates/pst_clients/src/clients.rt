@@ -308,7 +308,7 @@ impl<R: Wait + Files, I: Read + ReadAhead + Drop, O: Write + Drop> Clients<R, I,
                     NoteKind::Misfit,
                     line,
                     text,
-                    hint_on_answer_of_wrong_type(ty),
+                    hint_on_answer_of_wrong_type(text, ty),
                 )
             }
         }
@@ -339,7 +339,7 @@ impl<R: Wait + Files, I: Read + ReadAhead + Drop, O: Write + Drop> Clients<R, I,
                     NoteKind::NoValue,
                     line,
                     text,
-                    hint_on_answer_without_value(text),
+                    hint_on_answer_without_value(text, ty),
                 );
                 Err(CallFault::Refused)
             }

@@ -9,7 +9,7 @@ use crate::command::{
 use crate::ill::{ValueFault, value_fault_problem};
 use crate::reply_fault::first_reply_fault;
 use crate::values::problem_of_found_or_other_fault;
-use pst_sexpr::{Form, node_of};
+use pst_sexpr::{Form, node_of, tree_in};
 use pst_syntax_problems::{
     FoundProblem, Problem, counted_noun, has_head, problem_at, problem_with_note, with_note,
 };
@@ -195,6 +195,38 @@ fn with_reply_syntax_note(alloc: Global, found: Option<Problem>, has_maps: bool)
     )
 }
 
+/// What to write in the place of `word` in a reply, if it is a word of models or of another language.
+fn hint_on_word_in_reply(word: &str) -> Option<&'static str> {
+    match word {
+        "int" | "bool" | "text" => {
+            Some("hint: values have no types: `(list int 1)` of a model is `(list 1)`")
+        }
+        "True" | "#t" => Some("hint: write `true`"),
+        "False" | "#f" => Some("hint: write `false`"),
+        "null" | "None" | "nil" | "undefined" => {
+            Some(
+                "hint: there is no null: `true` if there is no result, `(list)` or `(list v)` for an option, `not-run` if the call was not made",
+            )
+        }
+        _ => None,
+    }
+}
+
+/// The problem `found` in the item `form`, with a hint if it is at a word of models or of another language.
+fn with_hint_on_word_in_reply(alloc: Global, form: &Form, found: Option<Problem>) -> FoundProblem {
+    let Some(problem) = found else {
+        return Ok(None);
+    };
+    let hint = match tree_in(form, problem.path.as_slice().get(1..).unwrap_or(&[])) {
+        Some(Form::Word(word)) => hint_on_word_in_reply(word.as_str()),
+        _ => None,
+    };
+    match hint {
+        Some(hint) => Ok(Some(problem.with(alloc, hint)?)),
+        None => Ok(Some(problem)),
+    }
+}
+
 /// The problem of a run in which the reply to command `command`, counted from 1, is not a reply.
 pub fn bad_reply_problem(
     alloc: Global,
@@ -207,7 +239,8 @@ pub fn bad_reply_problem(
         Some(reply) => {
             let path = [item, reply.place, reply.list, reply.offset];
             let found = not_a_reply_problem(alloc, search, &path, reply.form)?;
-            with_reply_syntax_note(alloc, found, search.source.has_maps)
+            let found = with_reply_syntax_note(alloc, found, search.source.has_maps)?;
+            with_hint_on_word_in_reply(alloc, form, found)
         }
         None => Ok(None),
     }

@@ -6,12 +6,12 @@ use crate::replies::{bad_reply_problem, misfitting_replies_problem};
 use crate::shape::bad_form_problem;
 use crate::variables::{SoughtVariable, first_variable_problem};
 use pst_case::CaseFaultKind;
-use pst_model::Source;
+use pst_model::{Item, Source};
 use pst_runs::{RunFault, RunFaultKind};
-use pst_sexpr::Form;
+use pst_sexpr::{Form, node_of};
 use pst_syntax_problems::{
-    FoundProblem, Problem, head_word_or_empty, path_to_part, problem_at,
-    unknown_operation_or_function_problem,
+    FoundProblem, Problem, find_operation, head_word_or_empty, path_to_part, problem_at,
+    problem_with_note, shortened_tree_text, unknown_operation_or_function_problem,
 };
 use std::alloc::{AllocError, Global};
 
@@ -68,6 +68,44 @@ fn too_many_commands_in_item_problem(
     )
 }
 
+/// The hint on a command that is written as a model writes it, with the word `call`. `None` if it is not.
+fn hint_on_call_word(
+    alloc: Global,
+    items: &[Item],
+    form: &Form,
+) -> Result<Option<String>, AllocError> {
+    let Some([Form::Word(head), Form::Word(name), ..]) = node_of(form) else {
+        return Ok(None);
+    };
+    if head.as_str() != "call" || find_operation(items, name.as_str()).is_none() {
+        return Ok(None);
+    }
+    let shown = shortened_tree_text(alloc, form)?;
+    match shown.as_str().strip_prefix("(call ") {
+        Some(call) => Ok(Some(format!(in alloc; "hint: leave out `call`: `({call}`")?)),
+        None => Ok(None),
+    }
+}
+
+/// The problem of a command whose head, which `path` leads to, is no name of an operation.
+fn unknown_operation_problem(
+    alloc: Global,
+    items: &[Item],
+    path: &[usize],
+    form: &Form,
+) -> FoundProblem {
+    let name = head_word_or_empty(form);
+    match hint_on_call_word(alloc, items, form)? {
+        Some(hint) => problem_with_note(
+            alloc,
+            path,
+            format_args!("no operation has the name `{name}`"),
+            hint,
+        ),
+        None => unknown_operation_or_function_problem(alloc, items, path, name, true),
+    }
+}
+
 /// The problem of command `number` at `path`, which has a fault of `kind`.
 fn command_fault_problem(
     alloc: Global,
@@ -81,13 +119,7 @@ fn command_fault_problem(
         CaseFaultKind::UnknownOp => {
             let path = path_to_part(path, alloc, 0)?;
             let items = search.source.items.as_slice();
-            unknown_operation_or_function_problem(
-                alloc,
-                items,
-                path.as_slice(),
-                head_word_or_empty(form),
-                true,
-            )
+            unknown_operation_problem(alloc, items, path.as_slice(), form)
         }
         CaseFaultKind::BadArgument => bad_argument_problem(alloc, search, path, form),
         CaseFaultKind::ForwardVar => {

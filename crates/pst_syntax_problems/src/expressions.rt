@@ -132,8 +132,11 @@ pub fn part_count_problem(
 }
 
 /// A hint for a word that heads no expression, if it heads a clause or is a word of another language.
-fn hint_for_non_expression_head(name: &str) -> Option<&'static str> {
+fn hint_for_non_expression_head(has_maps: bool, name: &str) -> Option<&'static str> {
     match name {
+        "in" if has_maps => Some(
+            "clauses are in `(for (CLAUSE ..) BODY)`; whether a map has a key is `(has m k)`",
+        ),
         "in" | "when" => Some("clauses are in `(for (CLAUSE ..) BODY)`"),
         _ => hint_for_foreign_word(name),
     }
@@ -148,7 +151,7 @@ fn unknown_expression_head_problem(
 ) -> FoundProblem {
     let name = word.as_str();
     let what = format_args!("no expression begins with `{name}`");
-    if let Some(hint) = hint_for_non_expression_head(name) {
+    if let Some(hint) = hint_for_non_expression_head(has_maps, name) {
         return problem_with_note_at_part(alloc, path, 0, what, format_args!("hint: {hint}"));
     }
     match nearest_expression_head_hint(alloc, has_maps, name)? {
@@ -255,6 +258,16 @@ fn malformed_expression_node_problem(
     }
 }
 
+/// The problem of a node without trees.
+fn empty_node_problem(alloc: Global, has_maps: bool, path: &[usize]) -> FoundProblem {
+    let hint = if has_maps {
+        "hint: an empty list is `(list T)`, an empty map is `(map K V)`"
+    } else {
+        "hint: an empty list is `(list T)`"
+    };
+    problem_with_note(alloc, path, "`()` is not an expression", hint)
+}
+
 /// The problem of a tree that is no expression.
 fn not_an_expression_problem(
     alloc: Global,
@@ -268,7 +281,7 @@ fn not_an_expression_problem(
         Form::Node(parts) => parts.as_slice(),
     };
     let Some((first, parts)) = parts.split_first() else {
-        return problem_at(alloc, path, "`()` is not an expression");
+        return empty_node_problem(alloc, has_maps, path);
     };
     match word_of(first) {
         Some(word) => malformed_expression_node_problem(alloc, has_maps, path, word, parts),

@@ -74,7 +74,7 @@ const TYPES: [HeadedForm; 4] = [
 ];
 
 /// Words of other languages, and what is written in their place.
-const FOREIGN: [(&str, &str); 126] = [
+const FOREIGN: [(&str, &str); 130] = [
     (">", "write `(< b a)` for `(> a b)`"),
     (">=", "write `(<= b a)` for `(>= a b)`"),
     ("!=", "write `(not (= a b))`"),
@@ -123,6 +123,14 @@ const FOREIGN: [(&str, &str); 126] = [
     ("rest", "write `(for ((in i (range 1 (len a)))) (nth a i))`"),
     ("tail", "write `(for ((in i (range 1 (len a)))) (nth a i))`"),
     ("cdr", "write `(for ((in i (range 1 (len a)))) (nth a i))`"),
+    (
+        "sort",
+        "lists are not sorted; the keys of a map rise in `(keys m)`",
+    ),
+    (
+        "reverse",
+        "write `(for ((in i (range 0 (len a)))) (nth a (- (- (len a) 1) i)))`",
+    ),
     ("filter", "write `(for ((in x a) (when TEST)) x)`"),
     ("foldl", "write `(fold x LIST acc FIRST BODY)`"),
     ("foldr", "write `(fold x LIST acc FIRST BODY)`"),
@@ -250,6 +258,8 @@ const FOREIGN: [(&str, &str); 126] = [
         "void",
         "there is no such type: use `bool`, and return `true`",
     ),
+    ("#t", "write `true`"),
+    ("#f", "write `false`"),
     ("True", "write `true`"),
     ("False", "write `false`"),
 ];

@@ -88,7 +88,7 @@ fn notes_say_what_went_wrong(rt: HostRuntime) -> Result<(), Fail> {
     let wanted = "client 1-1: [\"put\",1] was not answered: the client has gone
 client 1-1: [\"put\",1] was answered with failed: no
 client 1-1: [\"put\",1] was answered with something that is not a value: hello
-client 1-1: [\"put\",1] was answered with something that is not a value: null; for an option answer [] or [x] (docs/language.md, Patterns)
+client 1-1: [\"put\",1] was answered with something that is not a value: null; answer true if there is no result, [] or [x] for an option (docs/language.md, Patterns)
 client: 1 more like these
 client 1-1: [\"put\",1] was answered with another type: [1,\"a\"]; type int is a number such as 7
 ";

@@ -1,9 +1,10 @@
 //! Applications of functions and calls of operations.
 
 use crate::diagnose::BlamedPart;
-use crate::operands::operand_type_problem;
+use crate::operands::{has_references_in_place_of_values, operand_type_problem, with_only_note};
+use crate::spelling::type_text_of_kind;
 use crate::trees::tree_part_or_whole;
-use pst_model::{Fun, Item, Param};
+use pst_model::{Expr, Fun, Item, Param};
 use pst_sexpr::word_of;
 use pst_syntax_problems::{
     FoundProblem, Problem, SignatureText, counted_noun, find_operation, hint_for_foreign_word,
@@ -81,6 +82,27 @@ fn with_declaration_note(
     with_note(blamed.alloc, refused, format_args!("declared: {declared}"))
 }
 
+/// The problem `refused` of an argument of a call for the parameter `called`. If it is the result of an earlier call, its
+/// only note says how the parameter is declared.
+fn with_reference_parameter_hint(
+    blamed: &BlamedPart<'_>,
+    refused: Option<Problem>,
+    called: &str,
+    wanted: &Kind,
+    found: &Kind,
+) -> FoundProblem {
+    if !matches!(blamed.expr, Expr::Call(_, _))
+        || !has_references_in_place_of_values(blamed.alloc, wanted, found)?
+    {
+        return Ok(refused);
+    }
+    let declared = type_text_of_kind(blamed.alloc, found)?;
+    let hint = format_args!(
+        "hint: for results of earlier calls declare the parameter as `({called} {declared})`, and `deref` it in post (docs/language.md, Patterns)"
+    );
+    with_only_note(blamed.alloc, refused, hint)
+}
+
 /// The problem of argument `place`, counted from 0, which has another type than its parameter. `part` is its number in
 /// the tree.
 fn argument_type_problem(
@@ -100,6 +122,7 @@ fn argument_type_problem(
     let name = declared.name;
     let what = format_args!("the parameter {called} of `{name}`");
     let refused = operand_type_problem(blamed, what, part, &wanted, found)?;
+    let refused = with_reference_parameter_hint(blamed, refused, called, &wanted, found)?;
     with_declaration_note(blamed, refused, declared)
 }
 

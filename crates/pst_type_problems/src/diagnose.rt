@@ -6,8 +6,8 @@ use crate::lists::{
     nth_type_problem,
 };
 use crate::operands::{
-    map_wanted_problem, operand_type_problem, sequence_wanted_problem, tuple_wanted_problem,
-    wrong_first_operand_problem,
+    has_references_in_place_of_values, map_wanted_problem, operand_type_problem,
+    sequence_wanted_problem, tuple_wanted_problem, with_only_note, wrong_first_operand_problem,
 };
 use crate::spelling::type_text_of_kind;
 use pst_model::{Expr, Op};
@@ -59,7 +59,7 @@ fn hint_on_special_name(name: &str) -> Option<&'static str> {
         "r" => Some("hint: only next and post see the result `r`"),
         "state" | "self" => Some("hint: callbacks see the state as `s`"),
         "result" => Some("hint: next and post see the result as `r`"),
-        "null" => Some("hint: there is no null; an option is a list: `(list int)`"),
+        "null" | "nil" => Some("hint: there is no null; an option is a list: `(list int)`"),
         _ => None,
     }
 }
@@ -227,6 +227,20 @@ fn deref_type_problem(blamed: &BlamedPart<'_>) -> FoundProblem {
     }
 }
 
+/// The problem `refused` of a `++` that adds a list of the kind `added` to a list of the values. Its only note says how the
+/// list is declared.
+fn with_reference_list_hint(
+    blamed: &BlamedPart<'_>,
+    refused: Option<Problem>,
+    added: &Kind,
+) -> FoundProblem {
+    let declared = type_text_of_kind(blamed.alloc, added)?;
+    let hint = format_args!(
+        "hint: a result is a reference before post: declare the list as `{declared}`, and `deref` its items in post (docs/language.md, Patterns)"
+    );
+    with_only_note(blamed.alloc, refused, hint)
+}
+
 /// The problem of a `++` of a list of the kind `list` and something else, if it has one, with a hint if that
 /// is an item.
 fn list_join_type_problem(
@@ -236,6 +250,9 @@ fn list_join_type_problem(
     other: &Kind,
 ) -> FoundProblem {
     let refused = operand_type_problem(blamed, "`++` joins values of one type", 2, list, other)?;
+    if has_references_in_place_of_values(blamed.alloc, list, other)? {
+        return with_reference_list_hint(blamed, refused, other);
+    }
     if !item.same(blamed.alloc, other)? {
         return Ok(refused);
     }

@@ -30,10 +30,10 @@ fn nth_swapped_operands_problem(blamed: &BlamedPart<'_>) -> FoundProblem {
     )
 }
 
-/// The problem of an `nth` of a tuple.
-fn nth_of_tuple_problem(blamed: &BlamedPart<'_>, tuple: &Kind) -> FoundProblem {
-    let refused = list_wanted_problem(blamed.alloc, blamed.path, "`nth`", 1, tuple)?;
-    with_item_access_hint(blamed.alloc, refused, tuple)
+/// The problem of an `nth` of a tuple or a map.
+fn nth_of_tuple_or_map_problem(blamed: &BlamedPart<'_>, found: &Kind) -> FoundProblem {
+    let refused = list_wanted_problem(blamed.alloc, blamed.path, "`nth`", 1, found)?;
+    with_item_access_hint(blamed.alloc, refused, found)
 }
 
 /// Whether a type is that of lists.
@@ -52,7 +52,7 @@ fn nth_type_problem_by_form(
     match form {
         KindForm::List(_) => nth_index_type_problem(blamed, place),
         KindForm::Int if has_list_as_place => nth_swapped_operands_problem(blamed),
-        KindForm::Tuple(_) => nth_of_tuple_problem(blamed, list),
+        KindForm::Tuple(_) | KindForm::Map(_, _) => nth_of_tuple_or_map_problem(blamed, list),
         _ => list_wanted_problem(blamed.alloc, blamed.path, "`nth`", 1, list),
     }
 }

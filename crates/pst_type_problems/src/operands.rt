@@ -14,7 +14,7 @@ const REFERENCE: &str =
     "hint: a `ref`, as `r` in next, has a value only in post: keep it in the state, and `deref` it there (docs/language.md, Patterns)";
 
 /// Whether `found` has references where `wanted` has their values, and is the same type otherwise.
-fn has_references_in_place_of_values(
+pub fn has_references_in_place_of_values(
     alloc: Global,
     wanted: &Kind,
     found: &Kind,
@@ -27,6 +27,21 @@ fn has_references_in_place_of_values(
     let wants = type_text_of_kind(alloc, wanted)?;
     let has = type_text_of_kind(alloc, found)?;
     Ok(has.len() > wants.len())
+}
+
+/// The problem `refused` with the note `note` in the place of its notes.
+pub fn with_only_note<N: Display + Drop>(
+    alloc: Global,
+    refused: Option<Problem>,
+    note: N,
+) -> FoundProblem {
+    match refused {
+        Some(mut problem) => {
+            problem.notes.clear();
+            Ok(Some(problem.with(alloc, note)?))
+        }
+        None => Ok(None),
+    }
 }
 
 /// The problem `refused`, with a hint if references are in the place of their values.
