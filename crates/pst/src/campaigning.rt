@@ -239,7 +239,7 @@ fn print_warning_if_stop_file_exists<R: Eprint>(
 fn print_note_if_no_calls_are_parallel<R: Eprint>(rt: &R, settings: Settings) {
     if settings.branches >= 2 && settings.commands < settings.suffix.saturating_add(2) {
         let _ = eprintln!(rt;
-            "pst: no two calls are made at the same time: --commands {} counts the calls after the branches too (--suffix {}), and two branches need two more",
+            "pst: no two calls are made at the same time: --commands {} with --suffix {} leaves fewer than two for the branches",
             settings.commands, settings.suffix
         );
     }
