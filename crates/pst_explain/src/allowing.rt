@@ -150,16 +150,17 @@ pub fn allowed_answers_for_explanation<C: Callbacks>(
         ≡ true }
     requires answered { first_broken 1 (recorded history.now) ≡ None }
 {
+    let shaped = &scene.run.shaped;
+    let run = RecordedRun {
+        callbacks: &*callbacks,
+        alloc,
+        shaped: &*shaped,
+        history: &*history,
+    };
     let wanted = ReplyProposer {
         callbacks,
         scene,
         call,
-    };
-    let run = RecordedRun {
-        callbacks,
-        alloc,
-        shaped: &scene.run.shaped,
-        history,
     };
     callbacks.set_extra_calls_charged_to_next(1);
     let found = find_allowed_values(&run, scene.model, core, call.number, &wanted, MOST)?;
