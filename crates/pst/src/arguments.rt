@@ -1,6 +1,6 @@
 //! The arguments of the program: parsing, help, and messages on wrong arguments.
 
-use crate::{help, outputs, refused, words};
+use crate::{help, outputs, refused, subcommands};
 use clap::builder::ValueParser;
 use clap::error::ErrorKind;
 use clap::{ArgMatches, Command, Error};
@@ -10,12 +10,12 @@ use std::rt::Runtime;
 use std::{env, io};
 
 /// Returns whether a line is a tip that does not help here: no file or system of a user has a name like an option's.
-fn is_unhelpful_tip(line: &str) -> bool {
+fn is_tip_to_pass_option_as_value(line: &str) -> bool {
     line.starts_with("  tip: to pass '")
 }
 
 /// Returns the least and the greatest number that the option `--name` of `subcommand` takes, if it takes a number.
-fn number_range_in_subcommand(subcommand: &Command<'_>, name: &str) -> Option<(u64, u64)> {
+fn number_range_of_subcommand_option(subcommand: &Command<'_>, name: &str) -> Option<(u64, u64)> {
     for argument in subcommand.get_arguments() {
         if argument.get_long() == Some(name) {
             return match argument.get_value_parser() {
@@ -34,9 +34,9 @@ fn number_range_of_option(
     subcommand: &str,
     name: &str,
 ) -> Result<Option<(u64, u64)>, AllocError> {
-    let command = words::clap_command_for_program(alloc)?;
+    let command = subcommands::clap_command_for_program(alloc)?;
     match command.find_subcommand(subcommand) {
-        Some(subcommand) => Ok(number_range_in_subcommand(subcommand, name)),
+        Some(subcommand) => Ok(number_range_of_subcommand_option(subcommand, name)),
         None => Ok(None),
     }
 }
@@ -52,7 +52,7 @@ fn invalid_value_and_option_of_error(text: &str) -> Option<(&str, &str)> {
 
 /// Returns what is wrong with the arguments if a number is out of the range of its option, or none. `started`
 /// are the words of the program.
-fn number_out_of_range_message(
+fn message_if_option_number_is_invalid(
     alloc: Global,
     started: &[String],
     text: &str,
@@ -73,21 +73,21 @@ fn number_out_of_range_message(
 
 /// Returns what is wrong with the arguments, without tips that do not help. `started` are the words of the
 /// program.
-fn arguments_error_text(
+fn simplified_arguments_error_text(
     alloc: Global,
     started: &[String],
     error: &Error,
 ) -> Result<String, AllocError> {
     let whole = format!(in alloc; "{error}")?;
     if error.kind() == ErrorKind::ValueValidation {
-        if let Some(text) = number_out_of_range_message(alloc, started, whole.as_str())? {
+        if let Some(text) = message_if_option_number_is_invalid(alloc, started, whole.as_str())? {
             return Ok(text);
         }
     }
     let mut text = String::new(alloc);
     let mut was_empty = false;
     for line in whole.as_str().lines() {
-        let is_left_out = is_unhelpful_tip(line) || line.is_empty() && was_empty;
+        let is_left_out = is_tip_to_pass_option_as_value(line) || line.is_empty() && was_empty;
         if !is_left_out {
             text.push_str(line)?;
             text.push_str("\n")?;
@@ -110,7 +110,7 @@ fn print_help_or_arguments_error<R: Runtime + AllocGlobal>(
     if !error.use_stderr() {
         return match error.print(rt) {
             Ok(()) => Status::Accepted,
-            Err(error) => outputs::print_lost_output_unless_pipe_closed(
+            Err(error) => outputs::print_output_error_unless_pipe_closed(
                 rt,
                 rt.alloc(),
                 None,
@@ -118,7 +118,7 @@ fn print_help_or_arguments_error<R: Runtime + AllocGlobal>(
             ),
         };
     }
-    let Ok(text) = arguments_error_text(rt.alloc(), started, error) else {
+    let Ok(text) = simplified_arguments_error_text(rt.alloc(), started, error) else {
         return refused::print_memory_refusal(rt);
     };
     match eprint!(rt; "{text}") {
@@ -131,12 +131,12 @@ fn print_help_or_arguments_error<R: Runtime + AllocGlobal>(
 fn print_to_standard_output<R: Runtime + AllocGlobal>(rt: &R, text: &str) -> Status {
     match print!(rt; "{text}") {
         Ok(()) => Status::Accepted,
-        Err(error) => outputs::print_lost_output_unless_pipe_closed(rt, rt.alloc(), None, &error),
+        Err(error) => outputs::print_output_error_unless_pipe_closed(rt, rt.alloc(), None, &error),
     }
 }
 
 /// Writes to standard error that the launcher starts clients, and returns the status that the program ends with.
-fn refuse_client_without_launcher<R: Eprint>(rt: &R) -> Status {
+fn print_refusal_of_client_option<R: Eprint>(rt: &R) -> Status {
     let text =
         "error: the launcher takes --client, not the program itself: run ./pst or an installed pst";
     match eprintln!(rt; "{text}") {
@@ -147,20 +147,20 @@ fn refuse_client_without_launcher<R: Eprint>(rt: &R) -> Status {
 
 /// Parses the arguments of the program. If that fails, a client is to be started, or nothing but a text is to be
 /// printed, the error is the status that the program ends with.
-pub fn parse_arguments<'a, R: Runtime + AllocGlobal>(
+pub fn parse_arguments_else_print_help_or_error<'a, R: Runtime + AllocGlobal>(
     rt: &R,
     started: &'a [String],
 ) -> Result<ArgMatches<'a>, Status> {
-    let Ok(command) = words::clap_command_for_program(rt.alloc()) else {
+    let Ok(command) = subcommands::clap_command_for_program(rt.alloc()) else {
         return Err(refused::print_memory_refusal(rt));
     };
     match command.try_get_matches_from(started) {
         Ok(matches) if matches.subcommand_name() == Some("verdicts") => {
             Err(print_to_standard_output(rt, help::VERDICTS))
         }
-        Ok(matches) if words::has_client_argument(&matches) => Err(refuse_client_without_launcher(
-            rt,
-        )),
+        Ok(matches) if subcommands::is_client_option_given(&matches) => Err(
+            print_refusal_of_client_option(rt),
+        ),
         Ok(matches) => Ok(matches),
         Err(error) => Err(print_help_or_arguments_error(rt, started, &error)),
     }
@@ -168,9 +168,11 @@ pub fn parse_arguments<'a, R: Runtime + AllocGlobal>(
 
 /// Returns the words that the program was started with. If they cannot be read, the error is the status that the
 /// program ends with.
-pub fn program_arguments<R: Runtime + AllocGlobal>(rt: &R) -> Result<Vec<String>, Status> {
-    let words = match env::args(rt) {
-        Ok(words) => words,
+pub fn read_program_arguments_or_refuse<R: Runtime + AllocGlobal>(
+    rt: &R,
+) -> Result<Vec<String>, Status> {
+    let arguments = match env::args(rt) {
+        Ok(arguments) => arguments,
         Err(error) if error.kind() == io::ErrorKind::OutOfMemory => return Err(
             refused::print_memory_refusal(rt),
         ),
@@ -181,8 +183,8 @@ pub fn program_arguments<R: Runtime + AllocGlobal>(rt: &R) -> Result<Vec<String>
             };
         }
     };
-    match words.collect(rt.alloc()) {
-        Ok(words) => Ok(words),
+    match arguments.collect(rt.alloc()) {
+        Ok(arguments) => Ok(arguments),
         Err(_) => Err(refused::print_memory_refusal(rt)),
     }
 }

@@ -44,7 +44,7 @@ pub fn print_campaign_explanations_to_stderr<R: Eprint>(
     requires { AreInRange settings }
 {
     if let Some((case, history)) = notes.least.take() {
-        least_failure::print_least_failure_with_note_to_stderr(
+        least_failure::print_least_failure_explanation_with_note(
             rt, alloc, input, case, history, line_width,
         );
     }

@@ -35,7 +35,7 @@ struct LastTrialEnd {
 impl LastTrialEnd {
     /// Returns how many seconds `left` trials take, `milliseconds` after the beginning, at the rate up to the
     /// last trial that ended. `None` if more time has passed since then.
-    fn seconds_left(self, left: u64, milliseconds: u64) -> Option<u64> {
+    fn estimated_seconds_left(self, left: u64, milliseconds: u64) -> Option<u64> {
         let all = left
             .saturating_mul(self.milliseconds)
             .checked_div(self.count)?;
@@ -80,9 +80,9 @@ impl CampaignProgress {
     }
 
     /// Writes the line of a campaign in which no trial has ended. Nothing is known of the rate then.
-    fn write_line_before_first_trial_ends<R: Eprint>(&self, rt: &R) {
+    fn rewrite_line_before_first_trial_ends<R: Eprint>(&self, rt: &R) {
         let all = self.all;
-        let Some((trial, driven)) = self.shrinking.current() else {
+        let Some((trial, driven)) = self.shrinking.shrinking_trial_and_candidate_count() else {
             let _ = eprint!(rt; "\r\x1b[K0 of {all} done");
             return;
         };
@@ -102,19 +102,27 @@ impl CampaignProgress {
     /// the line cannot be written, the campaign continues.
     ///
     /// While a trial is shrunk, the terminal cuts the line off at its right edge.
-    fn write_line<R: Eprint>(&self, rt: &R, last: LastTrialEnd, milliseconds: u64) {
+    fn rewrite_progress_line_on_stderr<R: Eprint>(
+        &self,
+        rt: &R,
+        last: LastTrialEnd,
+        milliseconds: u64,
+    ) {
         if last.count == 0 {
-            return self.write_line_before_first_trial_ends(rt);
+            return self.rewrite_line_before_first_trial_ends(rt);
         }
         let done = self.done.load(Ordering::SeqCst);
         let failed = self.failed.load(Ordering::SeqCst);
         let lost = self.lost.load(Ordering::SeqCst);
         let all = self.all;
-        let DisplayedRate { number, unit } = DisplayedRate::of(last.count, milliseconds);
+        let DisplayedRate { number, unit } = DisplayedRate::from_count_and_milliseconds(
+            last.count,
+            milliseconds,
+        );
         let left = TimeLeft {
-            seconds: last.seconds_left(all.saturating_sub(last.count), milliseconds),
+            seconds: last.estimated_seconds_left(all.saturating_sub(last.count), milliseconds),
         };
-        let Some((trial, driven)) = self.shrinking.current() else {
+        let Some((trial, driven)) = self.shrinking.shrinking_trial_and_candidate_count() else {
             let _ = eprint!(rt;
                 "\r\x1b[K{done} of {all} done, {failed} failed, {lost} lost, {number} {unit}{left}"
             );
@@ -142,7 +150,7 @@ impl Watch for CampaignProgress {
         }
     }
 
-    fn shrinking(&self) -> Option<&ShrinkProgress> {
+    fn shrink_progress(&self) -> Option<&ShrinkProgress> {
         Some(&self.shrinking)
     }
 
@@ -151,14 +159,17 @@ impl Watch for CampaignProgress {
 
 /// What the thread that writes the line shares with the campaign.
 #[derive(Drop)]
-struct DisplayedProgress {
+struct DisplayedCampaignProgress {
     progress: CampaignProgress,
     is_over: AtomicBool,
     parker: Parker,
 }
 
 /// Writes the line again and again until the campaign is over, and takes it away then.
-fn rewrite_campaign_progress_until_over<R: Wait + Eprint>(rt: &R, displayed: &DisplayedProgress) {
+fn display_campaign_progress_until_over<R: Wait + Eprint>(
+    rt: &R,
+    displayed: &DisplayedCampaignProgress,
+) {
     let mut milliseconds = 0u64;
     let mut last = LastTrialEnd {
         count: 0,
@@ -179,7 +190,9 @@ fn rewrite_campaign_progress_until_over<R: Wait + Eprint>(rt: &R, displayed: &Di
                 milliseconds,
             };
         }
-        displayed.progress.write_line(rt, last, milliseconds);
+        displayed
+            .progress
+            .rewrite_progress_line_on_stderr(rt, last, milliseconds);
     }
     if milliseconds > 0 {
         let _ = eprint!(rt; "\r\x1b[K");
@@ -188,19 +201,19 @@ fn rewrite_campaign_progress_until_over<R: Wait + Eprint>(rt: &R, displayed: &Di
 
 /// The progress of a campaign, and the thread that displays it on standard error, if there is one.
 #[derive(Drop)]
-pub struct ProgressDisplay {
-    displayed: Arc<DisplayedProgress, Global>,
+pub struct CampaignProgressDisplay {
+    displayed: Arc<DisplayedCampaignProgress, Global>,
     thread: Option<JoinHandle<()>>,
 }
 
-impl ProgressDisplay {
+impl CampaignProgressDisplay {
     /// Begins the progress of a campaign of `all` trials. From now on a line displays it, if there is a thread for it.
     pub fn begin<R: Threads + Wait + Eprint + Copy + Drop + Send + 'static>(
         rt: &R,
         alloc: Global,
         all: u64,
-    ) -> Result<ProgressDisplay, AllocError> {
-        let displayed = DisplayedProgress {
+    ) -> Result<CampaignProgressDisplay, AllocError> {
+        let displayed = DisplayedCampaignProgress {
             progress: CampaignProgress::new(all),
             is_over: AtomicBool::new(false),
             parker: Parker::new(),
@@ -209,9 +222,9 @@ impl ProgressDisplay {
         let own = Arc::try_clone(&displayed)?;
         let rt = *rt;
         let thread = Builder::new()
-            .spawn(&rt, move || rewrite_campaign_progress_until_over(&rt, &own))
+            .spawn(&rt, move || display_campaign_progress_until_over(&rt, &own))
             .ok();
-        Ok(ProgressDisplay { displayed, thread })
+        Ok(CampaignProgressDisplay { displayed, thread })
     }
 
     /// The progress, which watches the campaign.
@@ -220,8 +233,8 @@ impl ProgressDisplay {
     }
 
     /// Ends the thread, and waits for it.
-    pub fn end<R: Threads + Wait>(self, rt: &R) {
-        let ProgressDisplay { displayed, thread } = self;
+    pub fn end_thread_and_wait<R: Threads + Wait>(self, rt: &R) {
+        let CampaignProgressDisplay { displayed, thread } = self;
         displayed.is_over.store(true, Ordering::SeqCst);
         displayed.parker.unpark();
         if let Some(thread) = thread {

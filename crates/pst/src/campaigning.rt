@@ -3,18 +3,18 @@
 ghost use Rattle.std.specs.Prelude.{◌≡◌, false};
 ghost use Rattle.pst_trial.specs.Settings.{AreInRange};
 
-use crate::campaign_progress::ProgressDisplay;
+use crate::campaign_progress::CampaignProgressDisplay;
 use crate::context::SubcommandContext;
-use crate::page::CampaignPageOptions;
+use crate::page::OptionalCampaignPage;
 use crate::saving::FailureSaver;
-use crate::systems::system_name_from_arguments;
+use crate::systems::system_name_from_arguments_or_empty;
 use crate::watching::BothWatchers;
-use crate::{campaign_messages, warnings, words};
+use crate::{campaign_messages, subcommands, warnings};
 use clap::ArgMatches;
 use pst_campaign::{EarlyStop, StopCondition};
 use pst_cli::{
-    Absence, CampaignNotes, MEMORY_OBJECT, Status, check_json, refuse_text,
-    run_campaign_and_take_notes,
+    Absence, CampaignNotes, MEMORY_OBJECT, Status, check_with_json_output, refuse_text,
+    run_and_report_campaign_taking_notes,
 };
 use pst_rejudge::{Field, json_object_line};
 use pst_sexpr::{Out, Sink, put_all};
@@ -34,7 +34,7 @@ struct CampaignOptions<'a> {
     is_terminal: bool,
     is_json_selected: bool,
     is_quiet: bool,
-    page: CampaignPageOptions<'a>,
+    page: OptionalCampaignPage<'a>,
     input: Input<'a>,
     /// The width of lines of explanations, in bytes.
     line_width: usize,
@@ -58,19 +58,19 @@ fn run_campaign_with_progress_on_terminal<
 {
     let (ending, input) = (options.ending, options.input.bytes);
     if options.is_terminal && !options.is_quiet {
-        if let Ok(display) = ProgressDisplay::begin(rt, alloc, settings.trials as u64) {
+        if let Ok(display) = CampaignProgressDisplay::begin(rt, alloc, settings.trials as u64) {
             let both = BothWatchers {
                 first: display.progress(),
                 second: ending,
             };
-            let status = run_campaign_and_take_notes(
+            let status = run_and_report_campaign_taking_notes(
                 rt, alloc, input, settings, systems, &both, notes, out,
             );
-            display.end(rt);
+            display.end_thread_and_wait(rt);
             return status;
         }
     }
-    run_campaign_and_take_notes(rt, alloc, input, settings, systems, ending, notes, out)
+    run_and_report_campaign_taking_notes(rt, alloc, input, settings, systems, ending, notes, out)
 }
 
 /// Writes the report of a campaign, or `refused memory` if it is empty. `Err`: it is not written, and the status is the
@@ -103,7 +103,7 @@ fn write_campaign_or_refusal_json_object<W: Sink>(
     requires { W.broken out.old ≡ false }
 {
     if status == Status::Refused {
-        return check_json(alloc, input, &[], out);
+        return check_with_json_output(alloc, input, &[], out);
     }
     let line = match report {
         Some(fields) => json_object_line(alloc, fields.as_slice()),
@@ -175,7 +175,7 @@ fn run_campaign_with_page_and_messages<
             options.line_width,
         );
         if notes.first_genfault.is_none() {
-            warnings::print_warnings_to_stderr(rt, alloc, options.input.files, input);
+            warnings::print_input_warnings_to_stderr(rt, alloc, options.input.files, input);
         }
     }
     status
@@ -189,7 +189,7 @@ fn save_campaign_failures_if_kept<R: Eprint + Files + AllocGlobal>(
     is_quiet: bool,
 ) -> Status {
     match notes.saved.as_ref() {
-        Some(failures) => saving.save(rt, failures.as_slice(), is_quiet),
+        Some(failures) => saving.save_failures_and_print_count(rt, failures.as_slice(), is_quiet),
         None => Status::Accepted,
     }
 }
@@ -209,7 +209,10 @@ fn run_campaign_and_save_failures<
     requires ranges { AreInRange settings }
     requires stands { W.broken out.old ≡ false }
 {
-    let mut notes = CampaignNotes::keeping(options.page.is_page_wanted(), true);
+    let mut notes = CampaignNotes::new_with_choice_to_keep_failures(
+        options.page.is_page_wanted(),
+        true,
+    );
     let status = run_campaign_with_page_and_messages(
         rt,
         rt.alloc(),
@@ -225,18 +228,18 @@ fn run_campaign_and_save_failures<
 /// Writes to standard error that the file that ends the campaign is there before it begins, if that is so.
 fn print_warning_if_stop_file_exists<R: Eprint>(
     rt: &R,
-    words: &ArgMatches<'_>,
+    arguments: &ArgMatches<'_>,
     ending: &EarlyStop,
 ) {
-    if let Some(name) = words.get_str("stop-file") {
-        if ending.is_over() {
+    if let Some(name) = arguments.get_str("stop-file") {
+        if ending.is_campaign_over() {
             let _ = eprintln!(rt; "pst: {name} is there already: no trial was begun");
         }
     }
 }
 
 /// Writes to standard error that no case has calls in two branches, if the settings leave too few commands for them.
-fn print_note_if_no_calls_are_parallel<R: Eprint>(rt: &R, settings: Settings) {
+fn print_note_if_branches_lack_commands<R: Eprint>(rt: &R, settings: Settings) {
     if settings.branches >= 2 && settings.commands < settings.suffix.saturating_add(2) {
         let _ = eprintln!(rt;
             "pst: no two calls are made at the same time: --commands {} with --suffix {} leaves fewer than two for the branches",
@@ -254,41 +257,51 @@ pub fn run_campaign_subcommand<
 >(
     rt: &R,
     context: SubcommandContext<'_, '_>,
-    words: &ArgMatches<'_>,
+    arguments: &ArgMatches<'_>,
     systems: Vec<BoxedSystem>,
     input: Input<'_>,
     out: &mut W,
 ) -> Status
     requires { W.broken out.old ≡ false }
 {
-    let name = system_name_from_arguments(words);
+    let name = system_name_from_arguments_or_empty(arguments);
     if systems.is_empty() {
         return refuse_text(Absence::NoSystem(name), out);
     }
-    let Some(settings) = words::campaign_settings_from_arguments(words) else {
+    let Some(settings) = subcommands::campaign_settings_from_arguments(arguments) else {
         return Status::Refused;
     };
     let options = CampaignOptions {
         ending: context.ending,
         is_terminal: context.terminals.errors,
-        is_json_selected: words::is_json_selected(words),
-        is_quiet: words.get_flag("quiet"),
-        page: CampaignPageOptions::from_arguments(words, input),
+        is_json_selected: subcommands::is_json_selected(arguments),
+        is_quiet: arguments.get_flag("quiet"),
+        page: OptionalCampaignPage::from_arguments(arguments, input),
         input,
         line_width: context.line_width,
     };
     if !options.is_quiet {
-        print_warning_if_stop_file_exists(rt, words, context.ending);
-        print_note_if_no_calls_are_parallel(rt, settings);
+        print_warning_if_stop_file_exists(rt, arguments, context.ending);
+        print_note_if_branches_lack_commands(rt, settings);
     }
-    if let Some(folder) = words.get_str("save") {
-        return match FailureSaver::begin_by_making_folder(rt, words, folder, settings.seed, name) {
-            Ok(saving) => run_campaign_and_save_failures(
+    if let Some(folder) = arguments.get_str("save") {
+        return match FailureSaver::begin_by_making_folder(
+            rt,
+            arguments,
+            folder,
+            settings.seed,
+            name,
+        ) {
+            Ok(Ok(saving)) => run_campaign_and_save_failures(
                 rt, settings, systems, &saving, options, out,
             ),
-            Err(status) => status,
+            Ok(Err(status)) => status,
+            Err(AllocError) => refuse_text(Absence::NoMemory, out),
         };
     }
-    let mut notes = CampaignNotes::keeping(options.page.is_page_wanted(), false);
+    let mut notes = CampaignNotes::new_with_choice_to_keep_failures(
+        options.page.is_page_wanted(),
+        false,
+    );
     run_campaign_with_page_and_messages(rt, rt.alloc(), settings, systems, options, &mut notes, out)
 }

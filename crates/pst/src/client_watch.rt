@@ -1,7 +1,7 @@
 //! Lines on standard error that say which client does not answer, and that resets fail.
 
 use crate::stop_file::stop_file_name_from_arguments;
-use crate::systems::{ChosenSystems, systems_from_arguments};
+use crate::systems::{ChosenSystems, systems_and_count_from_arguments};
 use clap::ArgMatches;
 use pst_clients::{ClientWaits, Notes};
 use std::alloc::{AllocError, Global};
@@ -48,7 +48,7 @@ impl SilenceTimer {
     }
 
     /// Counts a second. Returns whether a line on it is due.
-    fn count_second_and_check_if_report_is_due(&mut self, line: Option<u64>) -> bool {
+    fn restart_or_advance_and_check_if_due(&mut self, line: Option<u64>) -> bool {
         if line.is_none() || line != self.line {
             *self = SilenceTimer::starting_at_line(line);
             return false;
@@ -63,7 +63,7 @@ impl SilenceTimer {
 }
 
 /// Writes to standard error that a client does not answer its line.
-fn print_silent_client_to_stderr<R: Eprint>(
+fn print_that_client_is_silent<R: Eprint>(
     rt: &R,
     alloc: Global,
     waits: &ClientWaits,
@@ -88,7 +88,7 @@ fn print_silent_client_to_stderr<R: Eprint>(
 }
 
 /// Writes to standard error that resets fail, and how to end the campaign, if a file ends it.
-fn print_that_resets_fail_to_stderr<R: Eprint>(rt: &R, has_stop_file: bool) {
+fn print_that_resets_fail<R: Eprint>(rt: &R, has_stop_file: bool) {
     let advice = if has_stop_file {
         " Ctrl-C ends the campaign with its report"
     } else {
@@ -98,7 +98,7 @@ fn print_that_resets_fail_to_stderr<R: Eprint>(rt: &R, has_stop_file: bool) {
 }
 
 /// Returns the waits of `count` clients, none of which has a line to answer.
-fn new_client_waits(alloc: Global, count: usize) -> Result<Vec<SilenceTimer>, AllocError> {
+fn new_silence_timers(alloc: Global, count: usize) -> Result<Vec<SilenceTimer>, AllocError> {
     let mut clients = Vec::with_capacity(alloc, count)?;
     for _ in 0..count {
         clients.push(SilenceTimer::starting_at_line(None))?;
@@ -114,8 +114,8 @@ fn count_second_and_report_silent_clients<R: Eprint>(
     clients: &mut [SilenceTimer],
 ) {
     for place in 0..clients.len() {
-        if clients[place].count_second_and_check_if_report_is_due(waits.unanswered_line_id(place)) {
-            print_silent_client_to_stderr(rt, alloc, waits, place, clients[place].seconds);
+        if clients[place].restart_or_advance_and_check_if_due(waits.unanswered_line_id(place)) {
+            print_that_client_is_silent(rt, alloc, waits, place, clients[place].seconds);
         }
     }
 }
@@ -128,7 +128,7 @@ fn print_client_trouble_until_over<R: Wait + Eprint>(
     watched: &WatchedClients,
 ) -> Result<(), AllocError> {
     let waits = watched.notes.waits();
-    let mut clients = new_client_waits(alloc, waits.len())?;
+    let mut clients = new_silence_timers(alloc, waits.len())?;
     let mut is_said = false;
     for _ in rt.forever() {
         watched.parker.park_timeout(rt, Duration::from_secs(1));
@@ -138,7 +138,7 @@ fn print_client_trouble_until_over<R: Wait + Eprint>(
         count_second_and_report_silent_clients(rt, alloc, waits, clients.as_mut_slice());
         if !is_said && watched.notes.failed_resets_since_last_success() >= MANY {
             is_said = true;
-            print_that_resets_fail_to_stderr(rt, watched.has_stop_file);
+            print_that_resets_fail(rt, watched.has_stop_file);
         }
     }
     Ok(())
@@ -153,7 +153,7 @@ pub struct ClientWatch {
 
 impl ClientWatch {
     /// Ends the thread, and waits for it.
-    pub fn end<R: Threads + Wait>(self, rt: &R) {
+    pub fn end_thread_and_wait<R: Threads + Wait>(self, rt: &R) {
         let ClientWatch { watched, thread } = self;
         watched.is_over.store(true, Ordering::SeqCst);
         watched.parker.unpark();
@@ -163,14 +163,14 @@ impl ClientWatch {
 
 /// What the thread that watches the clients of some notes shares, if the arguments name clients and do not forbid
 /// messages.
-fn watched_clients_unless_quiet(
+fn watched_clients_if_any_unless_quiet(
     alloc: Global,
     matches: &ArgMatches<'_>,
     notes: &Arc<Notes, Global>,
 ) -> Option<Arc<WatchedClients, Global>> {
-    let (_, words) = matches.subcommand()?;
-    match systems_from_arguments(matches)? {
-        (ChosenSystems::Clients(_), _) if !words.get_flag("quiet") => {
+    let (_, arguments) = matches.subcommand()?;
+    match systems_and_count_from_arguments(matches)? {
+        (ChosenSystems::Clients(_), _) if !arguments.get_flag("quiet") => {
             let watched = WatchedClients {
                 notes: Arc::try_clone(notes).ok()?,
                 has_stop_file: stop_file_name_from_arguments(matches).is_some(),
@@ -190,7 +190,7 @@ pub fn start_client_watch_unless_quiet<R: Threads + Wait + Eprint + Copy + Drop 
     matches: &ArgMatches<'_>,
     notes: &Arc<Notes, Global>,
 ) -> Option<ClientWatch> {
-    let watched = watched_clients_unless_quiet(alloc, matches, notes)?;
+    let watched = watched_clients_if_any_unless_quiet(alloc, matches, notes)?;
     let own = Arc::try_clone(&watched).ok()?;
     let thread = Builder::new()
         .spawn(&rt, move || {

@@ -59,16 +59,16 @@ pub fn open_boxed_clients_for_worker<H: Wait + Files + Drop, R: Files + AllocGlo
 
 /// Writes to standard error that the pipes of the clients that the arguments name cannot be opened, and why, unless the
 /// arguments forbid it.
-pub fn print_unopened_pipes_unless_quiet<R: Eprint + AllocGlobal>(
+pub fn print_client_pipe_error_unless_quiet<R: Eprint + AllocGlobal>(
     rt: &R,
-    words: &ArgMatches<'_>,
+    arguments: &ArgMatches<'_>,
     name: &str,
     error: &io::Error,
 ) {
-    if words.get_flag("quiet") {
+    if arguments.get_flag("quiet") {
         return;
     }
-    let folder = match ClientFolder::from_word(name) {
+    let folder = match ClientFolder::from_argument(name) {
         Some(folder) => folder.name,
         None => name,
     };
@@ -83,10 +83,10 @@ pub fn print_unopened_pipes_unless_quiet<R: Eprint + AllocGlobal>(
 
 /// Writes what went wrong with clients to standard error, unless the arguments forbid it.
 pub fn print_client_notes_unless_quiet<R: Eprint>(rt: &R, matches: &ArgMatches<'_>, notes: &Notes) {
-    let Some((_, words)) = matches.subcommand() else {
+    let Some((_, arguments)) = matches.subcommand() else {
         return;
     };
-    if words.get_flag("quiet") {
+    if arguments.get_flag("quiet") {
         return;
     }
     if let Ok(text) = notes.text() {

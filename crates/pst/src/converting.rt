@@ -1,7 +1,7 @@
 //! `pst convert`.
 ghost use Rattle.std.specs.Prelude.{◌≡◌, false};
 
-use crate::{help, words};
+use crate::{help, subcommands};
 use clap::builder::ValueParser;
 use clap::{Arg, ArgMatches, Command};
 use pst_cli::{ItemForm, Status, convert_text};
@@ -16,7 +16,7 @@ pub fn clap_command_for_convert<'a>(alloc: Global) -> Result<Command<'a>, AllocE
     Command::new(alloc, "convert")
         .about("Writes cases and recorded runs as JSON, or as trees: one on each line")
         .after_help(help::CONVERT)
-        .arg(words::model_and_items_files_argument(alloc))?
+        .arg(subcommands::model_and_items_files_argument(alloc))?
         .arg(
             Arg::new(alloc, "to")
                 .long("to")
@@ -26,20 +26,20 @@ pub fn clap_command_for_convert<'a>(alloc: Global) -> Result<Command<'a>, AllocE
                 .help("json, or trees")
                 .hide_possible_values(true),
         )?
-        .arg(words::output_option(alloc))?
-        .arg(words::quiet_option(alloc))
+        .arg(subcommands::output_option(alloc))?
+        .arg(subcommands::quiet_option(alloc))
 }
 
 /// Writes the items of the input in the form that the arguments select.
 pub fn run_convert_subcommand<W: Sink>(
     alloc: Global,
-    words: &ArgMatches<'_>,
+    arguments: &ArgMatches<'_>,
     input: &[u8],
     out: &mut W,
 ) -> Status
     requires { W.broken out.old ≡ false }
 {
-    let form = if words.get_str("to") == Some("trees") {
+    let form = if arguments.get_str("to") == Some("trees") {
         ItemForm::Trees
     } else {
         ItemForm::Json

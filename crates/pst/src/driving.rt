@@ -3,14 +3,14 @@ ghost use Rattle.std.specs.Prelude.{◌≡◌, false};
 
 use crate::context::SubcommandContext;
 use crate::item_progress::ItemProgressDisplay;
-use crate::systems::system_name_from_arguments;
-use crate::words::is_json_selected;
+use crate::subcommands::is_json_selected;
+use crate::systems::system_name_from_arguments_or_empty;
 use crate::{misfits, run_explanation};
 use clap::ArgMatches;
 use pst_case::Run;
 use pst_cli::{
-    Absence, ItemResultCounts, ProgressCounter, Status, refuse_text, run_json, run_repeatedly,
-    run_text_with_progress,
+    Absence, ItemResultCounts, ProgressCounter, Status, drive_input_items_repeatedly_and_report,
+    refuse_text, run_text_with_counts_and_progress, run_with_json_output,
 };
 use pst_driver::Misfits;
 use pst_sexpr::{Out, Sink, put_all};
@@ -21,7 +21,7 @@ use std::thread::Threads;
 
 /// Writes to standard error why the first broken run is broken, in lines of at most `line_width` bytes, and how many other
 /// runs are broken.
-fn print_first_broken_run_and_count_rest<R: Eprint>(
+fn explain_first_broken_run_and_count_rest<R: Eprint>(
     rt: &R,
     alloc: Global,
     input: &[u8],
@@ -38,7 +38,7 @@ fn print_first_broken_run_and_count_rest<R: Eprint>(
     let Ok(heading) = format!(in alloc; "item {item} is broken:") else {
         return;
     };
-    run_explanation::print_run_explanation_to_stderr(
+    run_explanation::print_explanation_if_run_failed(
         rt,
         alloc,
         heading.as_str(),
@@ -67,7 +67,7 @@ struct DriveOptions {
 }
 
 /// Drives each item of the input, and writes the runs and their verdicts.
-fn drive_items_of_input<W: Sink, R: Threads + Wait>(
+fn drive_items_and_write_report<W: Sink, R: Threads + Wait>(
     rt: &R,
     alloc: Global,
     system: &mut BoxedSystem,
@@ -80,7 +80,7 @@ fn drive_items_of_input<W: Sink, R: Threads + Wait>(
     requires { W.broken out.old ≡ false }
 {
     if options.is_json_selected {
-        return run_json(
+        return run_with_json_output(
             rt,
             alloc,
             input,
@@ -93,9 +93,11 @@ fn drive_items_of_input<W: Sink, R: Threads + Wait>(
     }
     match options.repeats {
         Some(repeats) if repeats >= 1 => {
-            run_repeatedly(rt, alloc, input, system, repeats, counts, steps, out)
+            drive_input_items_repeatedly_and_report(
+                rt, alloc, input, system, repeats, counts, steps, out,
+            )
         }
-        _ => run_text_with_progress(rt, alloc, input, system, counts, steps, out),
+        _ => run_text_with_counts_and_progress(rt, alloc, input, system, counts, steps, out),
     }
 }
 
@@ -121,7 +123,7 @@ fn drive_items_with_progress_and_messages<
         return refuse_text(Absence::NoMemory, out);
     };
     let mut report = Out::new(Vec::new(alloc));
-    let status = drive_items_of_input(
+    let status = drive_items_and_write_report(
         rt,
         alloc,
         system,
@@ -131,7 +133,7 @@ fn drive_items_with_progress_and_messages<
         telling.steps(),
         &mut report,
     );
-    telling.end(rt);
+    telling.end_thread_and_wait(rt);
     let report = report.into_inner();
     // Each status but `Accepted` has a line: the report is empty only if an allocation of the buffer failed.
     if report.is_empty() && status != Status::Accepted {
@@ -141,7 +143,7 @@ fn drive_items_with_progress_and_messages<
         return Status::Lost;
     }
     misfits::print_misfits_to_stderr(rt, alloc, misfits);
-    print_first_broken_run_and_count_rest(rt, alloc, input, counts, options.line_width);
+    explain_first_broken_run_and_count_rest(rt, alloc, input, counts, options.line_width);
     status
 }
 
@@ -153,7 +155,7 @@ pub fn drive_items_on_system_or_refuse<
 >(
     rt: &R,
     context: SubcommandContext<'_, '_>,
-    words: &ArgMatches<'_>,
+    arguments: &ArgMatches<'_>,
     mut systems: Vec<BoxedSystem>,
     input: &[u8],
     counts: &mut ItemResultCounts,
@@ -162,12 +164,15 @@ pub fn drive_items_on_system_or_refuse<
     requires { W.broken out.old ≡ false }
 {
     let Some(mut system) = systems.pop() else {
-        return refuse_text(Absence::NoSystem(system_name_from_arguments(words)), out);
+        return refuse_text(
+            Absence::NoSystem(system_name_from_arguments_or_empty(arguments)),
+            out,
+        );
     };
     let alloc = rt.alloc();
     let options = DriveOptions {
-        repeats: words.get_one("repeats"),
-        is_json_selected: is_json_selected(words),
+        repeats: arguments.get_one("repeats"),
+        is_json_selected: is_json_selected(arguments),
         has_progress_line: context.terminals.errors,
         line_width: context.line_width,
     };
@@ -184,7 +189,7 @@ pub fn drive_items_on_system_or_refuse<
                 out,
             )
         }
-        None => drive_items_of_input(
+        None => drive_items_and_write_report(
             rt,
             alloc,
             &mut system,

@@ -4,12 +4,12 @@ ghost use Rattle.std.specs.Prelude.{◌≡◌, false};
 
 use crate::item_progress::ItemProgressDisplay;
 use crate::terminal::{self, LEAST_WIDTH, MOST_WIDTH, Terminals};
-use crate::{help, words};
+use crate::{help, subcommands};
 use clap::builder::ValueParser;
 use clap::{Arg, ArgAction, ArgMatches, Command};
 use pst_cli::{
-    Absence, Chosen, ExplainOptions, ExplanationForm, Status, explain_with_progress, graph_text,
-    refuse_text,
+    Absence, ChosenItems, ExplainOptions, ExplanationForm, Status, explain_with_progress,
+    refuse_text, write_search_graph_of_item,
 };
 use pst_sexpr::{MAX_BYTES, Out, Sink, put_all};
 use pst_sources::Input;
@@ -82,11 +82,11 @@ fn item_number_option<'a>(alloc: Global) -> Result<Arg<'a>, AllocError> {
 }
 
 /// The subcommand `explain`, with files, the form of explanations and the width of lines.
-fn clap_command_for_explain_base<'a>(alloc: Global) -> Result<Command<'a>, AllocError> {
+fn clap_explain_command_with_form_options<'a>(alloc: Global) -> Result<Command<'a>, AllocError> {
     Command::new(alloc, "explain")
         .about("Explains the verdicts on cases and recorded runs")
         .after_help(help::EXPLAIN)
-        .arg(words::model_and_items_files_argument(alloc))?
+        .arg(subcommands::model_and_items_files_argument(alloc))?
         .arg(explanation_format_option(alloc))?
         .arg(dot_graph_option(alloc)?)?
         .arg(whole_search_option(alloc))?
@@ -96,17 +96,17 @@ fn clap_command_for_explain_base<'a>(alloc: Global) -> Result<Command<'a>, Alloc
 
 /// The subcommand `explain`, with files, the form of explanations, and the items that are explained.
 pub fn clap_command_for_explain<'a>(alloc: Global) -> Result<Command<'a>, AllocError> {
-    clap_command_for_explain_base(alloc)?
-        .arg(words::only_failures_option(alloc))?
+    clap_explain_command_with_form_options(alloc)?
+        .arg(subcommands::only_failures_option(alloc))?
         .arg(item_number_option(alloc)?)?
         .arg(max_explained_items_option(alloc))?
-        .arg(words::output_option(alloc))?
-        .arg(words::quiet_option(alloc))
+        .arg(subcommands::output_option(alloc))?
+        .arg(subcommands::quiet_option(alloc))
 }
 
 /// Returns the number of the item that the arguments choose, if they choose one.
-fn item_number_from_arguments(words: &ArgMatches<'_>) -> Option<usize> {
-    let item: Option<u64> = words.get_one("item");
+fn item_number_from_arguments(arguments: &ArgMatches<'_>) -> Option<usize> {
+    let item: Option<u64> = arguments.get_one("item");
     match item {
         Some(item) => Some(item as usize),
         None => None,
@@ -114,17 +114,17 @@ fn item_number_from_arguments(words: &ArgMatches<'_>) -> Option<usize> {
 }
 
 /// Returns the items to explain, by the arguments.
-fn items_to_explain_from_arguments(words: &ArgMatches<'_>) -> Chosen {
-    match item_number_from_arguments(words) {
-        Some(number) => Chosen::Item(number),
-        None if words.get_flag("failures") => Chosen::Failures,
-        None => Chosen::All,
+fn items_to_explain_from_arguments(arguments: &ArgMatches<'_>) -> ChosenItems {
+    match item_number_from_arguments(arguments) {
+        Some(number) => ChosenItems::Item(number),
+        None if arguments.get_flag("failures") => ChosenItems::Failures,
+        None => ChosenItems::All,
     }
 }
 
 /// Returns the maximum number of items that the arguments allow.
-fn max_items_from_arguments(words: &ArgMatches<'_>) -> usize {
-    let most: Option<u64> = words.get_one("max");
+fn max_items_from_arguments_or_unlimited(arguments: &ArgMatches<'_>) -> usize {
+    let most: Option<u64> = arguments.get_one("max");
     match most {
         Some(most) => most as usize,
         None => usize::MAX,
@@ -132,18 +132,18 @@ fn max_items_from_arguments(words: &ArgMatches<'_>) -> usize {
 }
 
 /// Whether the arguments select graphs.
-fn is_dot_graph_selected(words: &ArgMatches<'_>) -> bool {
-    words.get_flag("dot") || words.get_str("format") == Some("dot")
+fn is_dot_graph_selected(arguments: &ArgMatches<'_>) -> bool {
+    arguments.get_flag("dot") || arguments.get_str("format") == Some("dot")
 }
 
 /// The form of text: with colors, or without.
 fn colored_or_plain_text_form<R: Env + AllocGlobal>(
     rt: &R,
-    words: &ArgMatches<'_>,
+    arguments: &ArgMatches<'_>,
     is_terminal: bool,
 ) -> ExplanationForm {
-    let width = terminal::line_width(rt, words);
-    if terminal::has_colors(rt, words, is_terminal) {
+    let width = terminal::line_width_from_arguments_or_environment(rt, arguments);
+    if terminal::should_output_have_colors(rt, arguments, is_terminal) {
         ExplanationForm::Colored(width)
     } else {
         ExplanationForm::Text(width)
@@ -153,23 +153,23 @@ fn colored_or_plain_text_form<R: Env + AllocGlobal>(
 /// The form of explanations that the arguments select.
 fn explanation_form_from_arguments<R: Env + AllocGlobal>(
     rt: &R,
-    words: &ArgMatches<'_>,
+    arguments: &ArgMatches<'_>,
     is_terminal: bool,
 ) -> ExplanationForm {
-    if is_dot_graph_selected(words) {
+    if is_dot_graph_selected(arguments) {
         return ExplanationForm::Dot {
-            is_whole: words.get_flag("all"),
+            is_whole: arguments.get_flag("all"),
         };
     }
-    match words.get_str("format") {
+    match arguments.get_str("format") {
         Some("json") => ExplanationForm::Json,
         Some("html") => ExplanationForm::Html,
-        _ => colored_or_plain_text_form(rt, words, is_terminal),
+        _ => colored_or_plain_text_form(rt, arguments, is_terminal),
     }
 }
 
 /// Explains the chosen items, and displays the progress on standard error if `has_progress_line`.
-fn explain_with_progress_line<
+fn explain_items_with_optional_progress_line<
     W: Sink,
     R: Threads + Wait + Sync + Eprint + AllocGlobal + Copy + Drop + Send + 'static,
 >(rt: &R, input: &[u8], options: ExplainOptions<'_>, has_progress_line: bool, out: &mut W) -> Status
@@ -181,7 +181,7 @@ fn explain_with_progress_line<
     };
     let mut text = Out::new(Vec::new(alloc));
     let status = explain_with_progress(rt, alloc, input, options, telling.steps(), &mut text);
-    telling.end(rt);
+    telling.end_thread_and_wait(rt);
     let text = text.into_inner();
     // Each status but `Accepted` has a text: there is none only if an allocation of the buffer failed.
     if text.is_empty() && status != Status::Accepted {
@@ -198,27 +198,27 @@ fn explain_with_progress_line<
 pub fn run_explain_subcommand<
     W: Sink,
     R: Threads + Wait + Sync + Eprint + Env + AllocGlobal + Copy + Drop + Send + 'static,
->(rt: &R, words: &ArgMatches<'_>, terminals: Terminals, input: Input<'_>, out: &mut W) -> Status
+>(rt: &R, arguments: &ArgMatches<'_>, terminals: Terminals, input: Input<'_>, out: &mut W) -> Status
     requires { W.broken out.old ≡ false }
 {
     let Input { files, bytes } = input;
-    let is_one = !words.get_flag("failures") && words.get_str("max").is_none();
-    if is_dot_graph_selected(words) && is_one {
-        return graph_text(
+    let is_one = !arguments.get_flag("failures") && arguments.get_str("max").is_none();
+    if is_dot_graph_selected(arguments) && is_one {
+        return write_search_graph_of_item(
             rt,
             rt.alloc(),
             bytes,
-            item_number_from_arguments(words),
-            words.get_flag("all"),
+            item_number_from_arguments(arguments),
+            arguments.get_flag("all"),
             out,
         );
     }
     let options = ExplainOptions {
         files,
-        chosen: items_to_explain_from_arguments(words),
-        most: max_items_from_arguments(words),
-        form: explanation_form_from_arguments(rt, words, terminals.output),
+        chosen: items_to_explain_from_arguments(arguments),
+        most: max_items_from_arguments_or_unlimited(arguments),
+        form: explanation_form_from_arguments(rt, arguments, terminals.output),
     };
-    let has_progress_line = terminals.errors && !words.get_flag("quiet");
-    explain_with_progress_line(rt, bytes, options, has_progress_line, out)
+    let has_progress_line = terminals.errors && !arguments.get_flag("quiet");
+    explain_items_with_optional_progress_line(rt, bytes, options, has_progress_line, out)
 }

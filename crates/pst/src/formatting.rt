@@ -1,7 +1,7 @@
 //! `pst fmt`.
 
 use crate::input::{self, InputOptions, STANDARD_INPUT};
-use crate::{help, json_items, outputs, refused, words};
+use crate::{help, json_items, outputs, refused, subcommands};
 use clap::{Arg, ArgAction, ArgMatches, Command};
 use pst_cli::{Status, refuse_text};
 use pst_messages::{MessageScope, input_error_messages_text};
@@ -28,7 +28,7 @@ pub fn clap_command_for_fmt<'a>(alloc: Global) -> Result<Command<'a>, AllocError
         .after_help(help::FMT)
         .arg(files)?
         .arg(check)?
-        .arg(words::quiet_option(alloc))
+        .arg(subcommands::quiet_option(alloc))
 }
 
 /// How files are laid out.
@@ -40,10 +40,10 @@ struct FormatOptions {
 }
 
 /// Prints a text on standard output. If it cannot be printed, standard error says so, unless the pipe is closed.
-fn print_formatted_text<R: Runtime + AllocGlobal>(rt: &R, text: &[u8]) -> Status {
+fn print_bytes_to_standard_output<R: Runtime + AllocGlobal>(rt: &R, text: &[u8]) -> Status {
     match io::writer(rt).write_all(text) {
         Ok(()) => Status::Accepted,
-        Err(error) => outputs::print_lost_output_unless_pipe_closed(rt, rt.alloc(), None, &error),
+        Err(error) => outputs::print_output_error_unless_pipe_closed(rt, rt.alloc(), None, &error),
     }
 }
 
@@ -59,7 +59,7 @@ enum RewriteError {
 }
 
 /// Makes the copy, in which the bytes are before those of the file change: if the disk is full, nothing is lost.
-fn write_new_text_to_copy_file<R: Files>(
+fn create_copy_file_with_text<R: Files>(
     rt: &R,
     copy: &str,
     text: &[u8],
@@ -85,7 +85,7 @@ fn write_copy_then_file_then_remove_copy<R: Files>(
     copy: &str,
     text: &[u8],
 ) -> Result<(), RewriteError> {
-    write_new_text_to_copy_file(rt, copy, text)?;
+    create_copy_file_with_text(rt, copy, text)?;
     match write(rt, name, text) {
         Ok(()) => {}
         Err(error) => return Err(RewriteError::Kept(error)),
@@ -106,7 +106,7 @@ fn print_rewrite_error_to_stderr<R: Eprint>(
 ) {
     match why {
         RewriteError::Kept(error) => {
-            outputs::print_unwritten_file_to_stderr(rt, alloc, name, error);
+            outputs::print_why_file_was_not_written(rt, alloc, name, error);
             let _ = eprintln!(rt; "  its new text is in {copy}");
         }
         RewriteError::Taken => {
@@ -114,14 +114,18 @@ fn print_rewrite_error_to_stderr<R: Eprint>(
                 "pst: cannot write {name}: there is a file {copy}, which would be lost"
             );
         }
-        RewriteError::NoCopy(error) => outputs::print_unwritten_file_to_stderr(
+        RewriteError::NoCopy(error) => outputs::print_why_file_was_not_written(
             rt, alloc, copy, error,
         ),
     }
 }
 
 /// Rewrites a file.
-fn rewrite_file<R: Runtime + AllocGlobal>(rt: &R, name: &str, text: &[u8]) -> Status {
+fn rewrite_file_by_way_of_copy<R: Runtime + AllocGlobal>(
+    rt: &R,
+    name: &str,
+    text: &[u8],
+) -> Status {
     let Ok(copy) = format!(in rt.alloc(); "{name}.pst-fmt") else {
         return refused::print_memory_refusal(rt);
     };
@@ -150,7 +154,7 @@ fn check_print_or_rewrite_file<R: Runtime + AllocGlobal>(
         }
         return match println!(rt; "{name}") {
             Ok(()) => Status::Failed,
-            Err(error) => outputs::print_lost_output_unless_pipe_closed(
+            Err(error) => outputs::print_output_error_unless_pipe_closed(
                 rt,
                 rt.alloc(),
                 None,
@@ -159,11 +163,11 @@ fn check_print_or_rewrite_file<R: Runtime + AllocGlobal>(
         };
     }
     if name == STANDARD_INPUT {
-        print_formatted_text(rt, text)
+        print_bytes_to_standard_output(rt, text)
     } else if is_same {
         Status::Accepted
     } else {
-        rewrite_file(rt, name, text)
+        rewrite_file_by_way_of_copy(rt, name, text)
     }
 }
 
@@ -180,7 +184,7 @@ fn print_refusal_of_malformed_file<R: Runtime + AllocGlobal>(
     }
     let refusal = Refusal::Unread(fault);
     if let Err(error) = println!(rt; "refused {refusal}") {
-        return outputs::print_lost_output_unless_pipe_closed(rt, rt.alloc(), None, &error);
+        return outputs::print_output_error_unless_pipe_closed(rt, rt.alloc(), None, &error);
     }
     if !options.reading.is_quiet {
         if let Ok(Some(message)) = input_error_messages_text(
@@ -197,7 +201,7 @@ fn print_refusal_of_malformed_file<R: Runtime + AllocGlobal>(
 
 /// The text of a file with items as JSON that has to be trees: up to the first of these items if that is refused, or
 /// else all of it with blanks in place of them.
-fn text_with_json_blanked_or_refused_head(
+fn json_blanked_text_or_malformed_beginning(
     alloc: Global,
     bytes: &[u8],
 ) -> Result<Vec<u8>, AllocError> {
@@ -217,7 +221,7 @@ fn keep_or_refuse_file_with_json_items<R: Runtime + AllocGlobal>(
 ) -> Status {
     let alloc = rt.alloc();
     let name = file.name;
-    let Ok(text) = text_with_json_blanked_or_refused_head(alloc, file.bytes.as_slice()) else {
+    let Ok(text) = json_blanked_text_or_malformed_beginning(alloc, file.bytes.as_slice()) else {
         return refused::print_memory_refusal(rt);
     };
     if let Err(fault) = read(alloc, text.as_slice()) {
@@ -243,12 +247,12 @@ fn keep_or_refuse_file_with_json_items<R: Runtime + AllocGlobal>(
 }
 
 /// Lays out the file `name`.
-fn format_file_by_name<R: Runtime + AllocGlobal>(
+fn format_or_check_file_by_name<R: Runtime + AllocGlobal>(
     rt: &R,
     name: &str,
     options: FormatOptions,
 ) -> Status {
-    let files = match input::read_files(rt, &[name], options.reading) {
+    let files = match input::read_files_or_standard_input(rt, &[name], options.reading) {
         Ok(files) => files,
         Err(why) => return refuse_text(why, &mut Out::new(io::writer(rt))),
     };
@@ -269,20 +273,20 @@ fn format_file_by_name<R: Runtime + AllocGlobal>(
 /// one cannot be read, `Lost` if one cannot be written, `Failed` if one would change with `--check`.
 pub fn run_fmt_subcommand<R: Runtime + AllocGlobal>(
     rt: &R,
-    words: &ArgMatches<'_>,
+    arguments: &ArgMatches<'_>,
     reading: InputOptions,
 ) -> Status {
     let options = FormatOptions {
-        only_checks: words.get_flag("check"),
+        only_checks: arguments.get_flag("check"),
         reading,
     };
-    let names = words.get_strs("FILE").unwrap_or(&[]);
+    let names = arguments.get_strs("FILE").unwrap_or(&[]);
     if names.is_empty() {
-        return format_file_by_name(rt, STANDARD_INPUT, options);
+        return format_or_check_file_by_name(rt, STANDARD_INPUT, options);
     }
     let mut status = Status::Accepted;
     for name in names {
-        status = status.or_worse(format_file_by_name(rt, name, options));
+        status = status.or_worse(format_or_check_file_by_name(rt, name, options));
     }
     status
 }

@@ -28,7 +28,7 @@ struct FileReadError {
 
 /// Reads at most `limit` bytes of standard input. If it is a terminal, a line on standard error says that it is read,
 /// unless `reading` is quiet.
-fn read_standard_input<R: Input + Eprint + AllocGlobal>(
+fn read_standard_input_with_terminal_note<R: Input + Eprint + AllocGlobal>(
     rt: &R,
     limit: u64,
     reading: InputOptions,
@@ -47,7 +47,7 @@ fn read_standard_input<R: Input + Eprint + AllocGlobal>(
 }
 
 /// Reads at most `limit` bytes of the file `name`.
-fn read_file<R: Files + AllocGlobal>(
+fn read_file_up_to_limit<R: Files + AllocGlobal>(
     rt: &R,
     name: &str,
     limit: u64,
@@ -72,7 +72,7 @@ fn read_file<R: Files + AllocGlobal>(
 }
 
 /// Writes to standard error which file cannot be read and why, unless `is_quiet`.
-fn print_unread_file_to_stderr<R: Eprint + AllocGlobal>(
+fn print_read_error_unless_quiet<R: Eprint + AllocGlobal>(
     rt: &R,
     name: &str,
     unread: &FileReadError,
@@ -95,7 +95,7 @@ fn print_unread_file_to_stderr<R: Eprint + AllocGlobal>(
 }
 
 /// Returns why there is no input if a file cannot be read. Standard error says which file it is, unless `is_quiet`.
-fn print_unread_file_and_classify_absence<R: Eprint + AllocGlobal>(
+fn print_read_error_and_classify_absence<R: Eprint + AllocGlobal>(
     rt: &R,
     name: &str,
     unread: &FileReadError,
@@ -104,18 +104,18 @@ fn print_unread_file_and_classify_absence<R: Eprint + AllocGlobal>(
     if unread.error.kind() == ErrorKind::OutOfMemory {
         return Absence::NoMemory;
     }
-    print_unread_file_to_stderr(rt, name, unread, is_quiet);
+    print_read_error_unless_quiet(rt, name, unread, is_quiet);
     Absence::NoFile
 }
 
 /// Returns whether the file `name` can be opened.
-pub fn can_be_opened<R: Files>(rt: &R, name: &str) -> bool {
+pub fn can_file_be_opened<R: Files>(rt: &R, name: &str) -> bool {
     std::fs::open(rt, name).is_ok()
 }
 
 /// Opens each of the files, and reads nothing. `NoFile` means that one cannot be opened; standard error says which,
 /// unless `is_quiet`.
-pub fn open_files_without_reading<R: Files + Eprint + AllocGlobal>(
+pub fn check_that_files_can_be_opened<R: Files + Eprint + AllocGlobal>(
     rt: &R,
     names: &[&str],
     is_quiet: bool,
@@ -129,7 +129,7 @@ pub fn open_files_without_reading<R: Files + Eprint + AllocGlobal>(
                 was_opened: false,
                 error,
             };
-            return Err(print_unread_file_and_classify_absence(rt, name, &unread, is_quiet));
+            return Err(print_read_error_and_classify_absence(rt, name, &unread, is_quiet));
         }
     }
     Ok(())
@@ -138,7 +138,7 @@ pub fn open_files_without_reading<R: Files + Eprint + AllocGlobal>(
 /// Reads the files `names`. `-` is standard input, which is also read if there is no name. In all, it reads at most one
 /// byte more than an input may have. `NoFile` means that a file cannot be opened or read; standard error says which,
 /// unless `reading` is quiet. `NoMemory` means that an allocation failed.
-pub fn read_files<'a, R: Files + Input + Eprint + AllocGlobal>(
+pub fn read_files_or_standard_input<'a, R: Files + Input + Eprint + AllocGlobal>(
     rt: &R,
     names: &[&'a str],
     reading: InputOptions,
@@ -152,13 +152,13 @@ pub fn read_files<'a, R: Files + Input + Eprint + AllocGlobal>(
     let mut limit = MAX_BYTES as u64 + 1;
     for name in names {
         let found = if *name == STANDARD_INPUT {
-            read_standard_input(rt, limit, reading)
+            read_standard_input_with_terminal_note(rt, limit, reading)
         } else {
-            read_file(rt, name, limit)
+            read_file_up_to_limit(rt, name, limit)
         };
         let bytes = match found {
             Ok(bytes) => bytes,
-            Err(unread) => return Err(print_unread_file_and_classify_absence(
+            Err(unread) => return Err(print_read_error_and_classify_absence(
                 rt,
                 name,
                 &unread,

@@ -1,6 +1,6 @@
 //! A line on a terminal that says how far a command is.
 
-use crate::summary::add_grouped_number;
+use crate::summary::add_number_with_thousands_commas;
 use pst_cli::ProgressCounter;
 use std::alloc::{AllocError, Global};
 use std::sync::atomic::{AtomicBool, Ordering};
@@ -13,10 +13,10 @@ const PAUSE: u64 = 250;
 
 /// What the thread that writes the line shares with the one that does the work.
 #[derive(Drop)]
-struct DisplayedSteps {
+struct DisplayedItemProgress {
     steps: ProgressCounter,
     /// What is done with an item, as `explained`.
-    word: &'static str,
+    participle: &'static str,
     is_over: AtomicBool,
     parker: Parker,
 }
@@ -31,7 +31,7 @@ pub struct DisplayedRate {
 
 impl DisplayedRate {
     /// The rate if `count` took `milliseconds`.
-    pub fn of(count: u64, milliseconds: u64) -> DisplayedRate {
+    pub fn from_count_and_milliseconds(count: u64, milliseconds: u64) -> DisplayedRate {
         let rate = count
             .saturating_mul(1000)
             .checked_div(milliseconds)
@@ -49,19 +49,22 @@ impl DisplayedRate {
     }
 }
 
-/// Adds how many seconds `left` items take, if that is known: `thousands` thousandths of an item took `milliseconds`.
-fn add_time_left(
+/// Adds how many seconds `left` items take, if that is known: `thousandths_done` thousandths of an item took `milliseconds`.
+fn add_time_left_if_known(
     line: &mut String,
     alloc: Global,
     left: u64,
-    thousands: u64,
+    thousandths_done: u64,
     milliseconds: u64,
 ) -> Result<(), AllocError> {
-    let Some(seconds) = left.saturating_mul(milliseconds).checked_div(thousands) else {
+    let Some(seconds) = left
+        .saturating_mul(milliseconds)
+        .checked_div(thousandths_done)
+    else {
         return Ok(());
     };
     line.push_str(", ")?;
-    add_grouped_number(line, alloc, seconds as usize)?;
+    add_number_with_thousands_commas(line, alloc, seconds as usize)?;
     line.push_str(" s left")
 }
 
@@ -69,36 +72,40 @@ fn add_time_left(
 fn add_rate(line: &mut String, alloc: Global, rate: DisplayedRate) -> Result<(), AllocError> {
     let DisplayedRate { number, unit } = rate;
     line.push_str(", ")?;
-    add_grouped_number(line, alloc, number as usize)?;
+    add_number_with_thousands_commas(line, alloc, number as usize)?;
     line.push_str(" ")?;
     line.push_str(unit)
 }
 
 /// The line after some milliseconds, as `1,204 of 10,000 explained, 512 a second, 17 s left`. It leaves out what is not
 /// known.
-fn progress_line(
+fn item_progress_line(
     alloc: Global,
     steps: &ProgressCounter,
-    word: &str,
+    participle: &str,
     milliseconds: u64,
 ) -> Result<String, AllocError> {
-    let done = steps.done();
-    let thousands = done.saturating_mul(1000);
+    let done = steps.items_done();
+    let thousandths_done = done.saturating_mul(1000);
     let mut line = String::new(alloc);
-    add_grouped_number(&mut line, alloc, done as usize)?;
-    if let Some(all) = steps.all() {
+    add_number_with_thousands_commas(&mut line, alloc, done as usize)?;
+    if let Some(all) = steps.known_total() {
         line.push_str(" of ")?;
-        add_grouped_number(&mut line, alloc, all as usize)?;
+        add_number_with_thousands_commas(&mut line, alloc, all as usize)?;
     }
     line.push_str(" ")?;
-    line.push_str(word)?;
-    add_rate(&mut line, alloc, DisplayedRate::of(done, milliseconds))?;
-    if let Some(all) = steps.all() {
-        add_time_left(
+    line.push_str(participle)?;
+    add_rate(
+        &mut line,
+        alloc,
+        DisplayedRate::from_count_and_milliseconds(done, milliseconds),
+    )?;
+    if let Some(all) = steps.known_total() {
+        add_time_left_if_known(
             &mut line,
             alloc,
             all.saturating_sub(done),
-            thousands,
+            thousandths_done,
             milliseconds,
         )?;
     }
@@ -106,19 +113,26 @@ fn progress_line(
 }
 
 /// Writes the line again and again until the work is over, and takes it away then.
-fn rewrite_item_progress_until_over<R: Wait + Eprint>(
+fn display_item_progress_until_over<R: Wait + Eprint>(
     rt: &R,
     alloc: Global,
-    told: &DisplayedSteps,
+    displayed: &DisplayedItemProgress,
 ) {
     let mut milliseconds = 0u64;
     for _ in rt.forever() {
-        told.parker.park_timeout(rt, Duration::from_millis(PAUSE));
-        if told.is_over.load(Ordering::SeqCst) {
+        displayed
+            .parker
+            .park_timeout(rt, Duration::from_millis(PAUSE));
+        if displayed.is_over.load(Ordering::SeqCst) {
             break;
         }
         milliseconds = milliseconds.saturating_add(PAUSE);
-        if let Ok(line) = progress_line(alloc, &told.steps, told.word, milliseconds) {
+        if let Ok(line) = item_progress_line(
+            alloc,
+            &displayed.steps,
+            displayed.participle,
+            milliseconds,
+        ) {
             let _ = eprint!(rt; "\r\x1b[K{line}");
         }
     }
@@ -130,50 +144,53 @@ fn rewrite_item_progress_until_over<R: Wait + Eprint>(
 /// The steps of a command, and the thread that displays how many are done, if there is one.
 #[derive(Drop)]
 pub struct ItemProgressDisplay {
-    told: Arc<DisplayedSteps, Global>,
+    displayed: Arc<DisplayedItemProgress, Global>,
     thread: Option<JoinHandle<()>>,
 }
 
 impl ItemProgressDisplay {
-    /// Begins the steps of a command. `word` is what is done with an item, as `explained`. From now on a line displays the
+    /// Begins the steps of a command. `participle` is what is done with an item, as `explained`. From now on a line displays the
     /// steps, if it is wanted and there is a thread for it.
     pub fn begin<R: Threads + Wait + Eprint + Copy + Drop + Send + 'static>(
         rt: &R,
         alloc: Global,
         has_progress_line: bool,
-        word: &'static str,
+        participle: &'static str,
     ) -> Result<ItemProgressDisplay, AllocError> {
-        let told = DisplayedSteps {
+        let displayed = DisplayedItemProgress {
             steps: ProgressCounter::new(),
-            word,
+            participle,
             is_over: AtomicBool::new(false),
             parker: Parker::new(),
         };
-        let told = Arc::new(alloc, told)?;
+        let displayed = Arc::new(alloc, displayed)?;
         if !has_progress_line {
-            return Ok(ItemProgressDisplay { told, thread: None });
+            return Ok(ItemProgressDisplay {
+                displayed,
+                thread: None,
+            });
         }
-        let own = Arc::try_clone(&told)?;
+        let own = Arc::try_clone(&displayed)?;
         let rt = *rt;
         let thread = Builder::new()
             .spawn(
                 &rt,
-                move || rewrite_item_progress_until_over(&rt, alloc, &own),
+                move || display_item_progress_until_over(&rt, alloc, &own),
             )
             .ok();
-        Ok(ItemProgressDisplay { told, thread })
+        Ok(ItemProgressDisplay { displayed, thread })
     }
 
     /// The steps.
     pub fn steps(&self) -> &ProgressCounter {
-        &self.told.steps
+        &self.displayed.steps
     }
 
     /// Ends the thread, and waits for it.
-    pub fn end<R: Threads + Wait>(self, rt: &R) {
-        let ItemProgressDisplay { told, thread } = self;
-        told.is_over.store(true, Ordering::SeqCst);
-        told.parker.unpark();
+    pub fn end_thread_and_wait<R: Threads + Wait>(self, rt: &R) {
+        let ItemProgressDisplay { displayed, thread } = self;
+        displayed.is_over.store(true, Ordering::SeqCst);
+        displayed.parker.unpark();
         if let Some(thread) = thread {
             thread.join(rt)
         }

@@ -1,19 +1,19 @@
 //! Items that files spell as JSON.
 
-use pst_messages::{files_with_json_as_trees, find_first_json_item};
+use pst_messages::{files_with_json_as_trees, find_first_line_like_json_item};
 use pst_sexpr::{FaultKind, MAX_BYTES, read};
-use pst_sources::{SourceFile, joined};
+use pst_sources::{SourceFile, joined_text_of_files};
 use pst_typing::{ModelFile, load};
 use std::alloc::{AllocError, Global};
 
 /// Returns whether a text has an item as JSON.
 pub fn has_json_items(text: &[u8]) -> bool {
-    find_first_json_item(text).is_some()
+    find_first_line_like_json_item(text).is_some()
 }
 
 /// Returns what is before the first JSON item of a text.
 pub fn text_before_json_items(text: &[u8]) -> &[u8] {
-    match find_first_json_item(text) {
+    match find_first_line_like_json_item(text) {
         Some(place) => text.get(..place).unwrap_or(text),
         None => text,
     }
@@ -35,7 +35,7 @@ pub fn text_with_json_items_blanked(alloc: Global, text: &[u8]) -> Result<Vec<u8
 }
 
 /// Returns the files with the first `count` bytes of their text.
-fn source_files_cut_to_byte_count<'a>(
+fn source_files_cut_to_total_bytes<'a>(
     alloc: Global,
     count: usize,
     files: &[SourceFile<'a>],
@@ -67,8 +67,8 @@ fn source_files_with_json_items_blanked<'a>(
 }
 
 /// Returns whether the text of files is one of trees.
-fn are_files_of_trees(alloc: Global, files: &[SourceFile<'_>]) -> Result<bool, AllocError> {
-    let text = joined(alloc, files)?;
+fn can_files_be_read_as_trees(alloc: Global, files: &[SourceFile<'_>]) -> Result<bool, AllocError> {
+    let text = joined_text_of_files(alloc, files)?;
     match read(alloc, text.as_slice()) {
         Ok(_) => Ok(true),
         Err(fault) if fault.kind == FaultKind::NoMemory => Err(AllocError),
@@ -80,12 +80,12 @@ fn are_files_of_trees(alloc: Global, files: &[SourceFile<'_>]) -> Result<bool, A
 /// JSON item; if it is refused, no more than what is before this item is left. If what is around the items is no text of
 /// trees, they are blanks: then the input is refused by the same fault, at its place in the files. Files of more than
 /// `MAX_BYTES` stay as they are, and are refused.
-pub fn source_files_with_json_as_trees_or_cut<'a>(
+pub fn source_files_with_json_replaced_or_removed<'a>(
     alloc: Global,
     files: &[SourceFile<'a>],
 ) -> Result<Option<Vec<SourceFile<'a>>>, AllocError> {
-    let text = joined(alloc, files)?;
-    let Some(place) = find_first_json_item(text.as_slice()) else {
+    let text = joined_text_of_files(alloc, files)?;
+    let Some(place) = find_first_line_like_json_item(text.as_slice()) else {
         return Ok(None);
     };
     if text.len() > MAX_BYTES {
@@ -95,12 +95,12 @@ pub fn source_files_with_json_as_trees_or_cut<'a>(
     match load(alloc, head)? {
         Ok(ModelFile { typed, trees: _ }) => {
             let blanked = source_files_with_json_items_blanked(alloc, files)?;
-            if are_files_of_trees(alloc, blanked.as_slice())? {
+            if can_files_be_read_as_trees(alloc, blanked.as_slice())? {
                 Ok(Some(files_with_json_as_trees(alloc, typed.source(), files)?))
             } else {
                 Ok(Some(blanked))
             }
         }
-        Err(_) => Ok(Some(source_files_cut_to_byte_count(alloc, place, files)?)),
+        Err(_) => Ok(Some(source_files_cut_to_total_bytes(alloc, place, files)?)),
     }
 }

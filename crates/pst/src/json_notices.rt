@@ -1,10 +1,10 @@
 //! The errors and warnings on a model, as JSON.
 
-use crate::words::is_json_selected;
+use crate::subcommands::is_json_selected;
 use clap::ArgMatches;
 use pst_messages::{MessageScope, input_error_notices, input_warning_notices};
-use pst_rejudge::{Field, Name, add_number_field, add_text_field, json_object_line};
-use pst_sources::{Input, Notice, NoticePlace, Notices, place_in};
+use pst_rejudge::{Field, FieldName, add_number_field, add_text_field, json_object_line};
+use pst_sources::{Input, Notice, NoticePlace, Notices, place_of_notice};
 use pst_value::Text;
 use std::alloc::{AllocError, Global};
 
@@ -25,12 +25,12 @@ fn severity_and_place_fields(
 ) -> Result<Vec<Field>, AllocError> {
     let severity = if is_warning { "warning" } else { "error" };
     let mut fields = Vec::new(alloc);
-    add_text_field(alloc, &mut fields, Name::Severity, severity)?;
-    add_text_field(alloc, &mut fields, Name::File, place.file)?;
-    add_number_field(&mut fields, Name::Line, place.line as u64)?;
-    add_number_field(&mut fields, Name::Column, place.column as u64)?;
-    add_number_field(&mut fields, Name::Start, place.start as u64)?;
-    add_number_field(&mut fields, Name::End, place.end as u64)?;
+    add_text_field(alloc, &mut fields, FieldName::Severity, severity)?;
+    add_text_field(alloc, &mut fields, FieldName::File, place.file)?;
+    add_number_field(&mut fields, FieldName::Line, place.line as u64)?;
+    add_number_field(&mut fields, FieldName::Column, place.column as u64)?;
+    add_number_field(&mut fields, FieldName::Start, place.start as u64)?;
+    add_number_field(&mut fields, FieldName::End, place.end as u64)?;
     Ok(fields)
 }
 
@@ -47,10 +47,10 @@ fn add_message_and_note_fields(
         notes,
         lines,
     } = notice;
-    fields.push(Field::Words(Name::Message, Text::from_string(what)))?;
-    fields.push(Field::Lines(Name::Notes, texts_of_strings(alloc, notes)?))?;
+    fields.push(Field::Words(FieldName::Message, Text::from_string(what)))?;
+    fields.push(Field::Lines(FieldName::Notes, texts_of_strings(alloc, notes)?))?;
     if !lines.is_empty() {
-        fields.push(Field::Words(Name::Explanation, Text::from_string(lines)))?;
+        fields.push(Field::Words(FieldName::Explanation, Text::from_string(lines)))?;
     }
     Ok(())
 }
@@ -61,7 +61,7 @@ fn json_line_of_notice(
     input: &Input<'_>,
     notice: Notice,
 ) -> Result<Vec<u8>, AllocError> {
-    let place = place_in(alloc, input, &notice)?;
+    let place = place_of_notice(alloc, input, &notice)?;
     let mut fields = severity_and_place_fields(alloc, notice.is_warning, &place)?;
     add_message_and_note_fields(alloc, &mut fields, notice)?;
     json_object_line(alloc, fields.as_slice())
@@ -80,8 +80,8 @@ fn json_lines_of_notices(
     }
     if !more.is_empty() {
         let mut fields = Vec::new(alloc);
-        add_text_field(alloc, &mut fields, Name::Severity, "error")?;
-        add_text_field(alloc, &mut fields, Name::Message, more.as_str().trim())?;
+        add_text_field(alloc, &mut fields, FieldName::Severity, "error")?;
+        add_text_field(alloc, &mut fields, FieldName::Message, more.as_str().trim())?;
         text.extend_from_slice(json_object_line(alloc, fields.as_slice())?.as_slice())?;
     }
     Ok(text)
@@ -101,18 +101,18 @@ fn json_lines_of_errors_else_warnings(
 }
 
 /// Returns whether the errors and warnings are part of the output.
-pub fn has_notices_in_output(word: &str, words: &ArgMatches<'_>) -> bool {
-    word == "check" && is_json_selected(words)
+pub fn is_check_with_json_output(subcommand: &str, arguments: &ArgMatches<'_>) -> bool {
+    subcommand == "check" && is_json_selected(arguments)
 }
 
 /// Returns the objects of the errors and warnings on a model, a line each. There are no lines if the arguments forbid
 /// them, or if an allocation for them fails.
 pub fn json_lines_of_notices_unless_quiet(
     alloc: Global,
-    words: &ArgMatches<'_>,
+    arguments: &ArgMatches<'_>,
     input: &Input<'_>,
 ) -> Vec<u8> {
-    if words.get_flag("quiet") {
+    if arguments.get_flag("quiet") {
         return Vec::new(alloc);
     }
     match json_lines_of_errors_else_warnings(alloc, input) {

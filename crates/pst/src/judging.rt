@@ -3,16 +3,16 @@ ghost use Rattle.std.specs.Prelude.{◌≡◌, false, All, IfSome};
 ghost use Rattle.pst_runs.specs.Lawful.{AreLawful};
 
 use crate::item_progress::ItemProgressDisplay;
-use crate::words::is_json_selected;
+use crate::subcommands::is_json_selected;
 use clap::ArgMatches;
 use pst_cli::{
     FileWithItemResults, ItemResultCounts, JudgedFile, MEMORY_OBJECT, ProgressCounter, Shown,
     Status, count_items_of_input, judge_file, judge_file_keep_going,
-    judge_file_keep_going_with_progress, judge_file_with_progress, judge_json,
-    judge_json_with_progress, judge_text, judge_text_keep_going,
+    judge_file_keep_going_with_progress, judge_file_with_progress, judge_text,
+    judge_text_keep_going, judge_with_json_output, judge_with_json_output_and_progress,
 };
 use pst_messages::{
-    ItemInput, message_on_first_broken_item_result, message_on_first_broken_run,
+    ItemInput, first_broken_item_result_and_count_message, first_broken_run_and_count_message,
     precondition_warnings_on_item_results, precondition_warnings_on_runs,
 };
 use pst_sexpr::{Out, Sink, put_all};
@@ -23,7 +23,10 @@ use std::thread::Threads;
 
 /// Writes `messages` to standard error. It does nothing if an allocation for them failed, and ignores failures to
 /// write.
-fn print_messages_to_stderr<R: Eprint>(rt: &R, messages: Result<Option<String>, AllocError>) {
+fn print_messages_if_any_to_stderr<R: Eprint>(
+    rt: &R,
+    messages: Result<Option<String>, AllocError>,
+) {
     if let Ok(Some(messages)) = messages {
         let _ = eprint!(rt; "{messages}");
     }
@@ -50,9 +53,9 @@ fn print_messages_on_judged_runs<R: Eprint>(
     ) = judged
     {
         let typed = compiled.typed();
-        print_messages_to_stderr(
+        print_messages_if_any_to_stderr(
             rt,
-            message_on_first_broken_run(alloc, typed, input, judged.as_slice()),
+            first_broken_run_and_count_message(alloc, typed, input, judged.as_slice()),
         );
         let warnings = precondition_warnings_on_runs(
             &compiled,
@@ -62,7 +65,7 @@ fn print_messages_on_judged_runs<R: Eprint>(
             runs.as_slice(),
             judged.as_slice(),
         );
-        print_messages_to_stderr(rt, warnings);
+        print_messages_if_any_to_stderr(rt, warnings);
         forget((compiled, runs, judged));
     }
 }
@@ -77,9 +80,15 @@ fn print_messages_on_item_results<R: Eprint>(
     if let Some(FileWithItemResults { file, answers }) = answered {
         let typed = file.compiled.typed();
         let trees = file.trees.as_slice();
-        print_messages_to_stderr(
+        print_messages_if_any_to_stderr(
             rt,
-            message_on_first_broken_item_result(alloc, typed, input, trees, answers.as_slice()),
+            first_broken_item_result_and_count_message(
+                alloc,
+                typed,
+                input,
+                trees,
+                answers.as_slice(),
+            ),
         );
         let warnings = precondition_warnings_on_item_results(
             &file.compiled,
@@ -89,13 +98,13 @@ fn print_messages_on_item_results<R: Eprint>(
             trees,
             answers.as_slice(),
         );
-        print_messages_to_stderr(rt, warnings)
+        print_messages_if_any_to_stderr(rt, warnings)
     }
 }
 
 /// Returns the items whose lines are written, by the arguments.
-fn shown_items_from_arguments(words: &ArgMatches<'_>) -> Shown {
-    if words.get_flag("failures") {
+fn shown_items_from_arguments(arguments: &ArgMatches<'_>) -> Shown {
+    if arguments.get_flag("failures") {
         Shown::Failures
     } else {
         Shown::All
@@ -120,17 +129,17 @@ fn count_item_results_and_print_messages<R: Eprint>(
 fn judge_items_without_messages<W: Sink, R: Threads + Sync>(
     rt: &R,
     alloc: Global,
-    words: &ArgMatches<'_>,
+    arguments: &ArgMatches<'_>,
     input: &[u8],
     out: &mut W,
 ) -> Status
     requires { W.broken out.old ≡ false }
 {
-    let shown = shown_items_from_arguments(words);
-    if is_json_selected(words) {
-        return judge_json(rt, alloc, input, shown, out).0;
+    let shown = shown_items_from_arguments(arguments);
+    if is_json_selected(arguments) {
+        return judge_with_json_output(rt, alloc, input, shown, out).0;
     }
-    match (words.get_flag("keep-going"), shown) {
+    match (arguments.get_flag("keep-going"), shown) {
         (false, Shown::All) => judge_text(rt, alloc, input, out),
         (true, Shown::All) => judge_text_keep_going(rt, alloc, input, out),
         (false, _) => judge_file(rt, alloc, input, shown, out).0,
@@ -142,16 +151,16 @@ fn judge_items_without_messages<W: Sink, R: Threads + Sync>(
 fn judge_all_items_despite_refusals<W: Sink, R: Threads + Sync>(
     rt: &R,
     alloc: Global,
-    words: &ArgMatches<'_>,
+    arguments: &ArgMatches<'_>,
     input: &[u8],
     steps: &ProgressCounter,
     out: &mut W,
 ) -> (Status, Option<FileWithItemResults>)
     requires { W.broken out.old ≡ false }
 {
-    let shown = shown_items_from_arguments(words);
-    if is_json_selected(words) {
-        judge_json_with_progress(rt, alloc, input, shown, steps, out)
+    let shown = shown_items_from_arguments(arguments);
+    if is_json_selected(arguments) {
+        judge_with_json_output_and_progress(rt, alloc, input, shown, steps, out)
     } else {
         judge_file_keep_going_with_progress(rt, alloc, input, shown, steps, out)
     }
@@ -159,7 +168,7 @@ fn judge_all_items_despite_refusals<W: Sink, R: Threads + Sync>(
 
 /// Writes the lines of the items. There are none, with another status than `Accepted`, only if an allocation failed.
 fn write_item_lines_or_memory_refusal<W: Sink>(
-    words: &ArgMatches<'_>,
+    arguments: &ArgMatches<'_>,
     lines: Out<Vec<u8>>,
     status: Status,
     out: &mut W,
@@ -168,7 +177,7 @@ fn write_item_lines_or_memory_refusal<W: Sink>(
 {
     let lines = lines.into_inner();
     let is_lost = lines.is_empty() && status != Status::Accepted;
-    let text = match (is_lost, is_json_selected(words)) {
+    let text = match (is_lost, is_json_selected(arguments)) {
         (false, _) => lines.as_slice(),
         (true, false) => b"refused memory\n",
         (true, true) => MEMORY_OBJECT,
@@ -180,7 +189,7 @@ fn write_item_lines_or_memory_refusal<W: Sink>(
 }
 
 /// Starts the line that displays how many items are judged.
-fn begin_judging_display<R: Threads + Wait + Eprint + Copy + Drop + Send + 'static>(
+fn begin_judging_progress_display<R: Threads + Wait + Eprint + Copy + Drop + Send + 'static>(
     rt: &R,
     alloc: Global,
     has_progress_line: bool,
@@ -190,7 +199,7 @@ fn begin_judging_display<R: Threads + Wait + Eprint + Copy + Drop + Send + 'stat
     if has_progress_line {
         telling
             .steps()
-            .set_total(count_items_of_input(alloc, input)?);
+            .restart_with_total(count_items_of_input(alloc, input)?);
     }
     Ok(telling)
 }
@@ -204,7 +213,7 @@ pub fn run_judge_subcommand<
 >(
     rt: &R,
     alloc: Global,
-    words: &ArgMatches<'_>,
+    arguments: &ArgMatches<'_>,
     has_progress_line: bool,
     input: ItemInput<'_>,
     counts: &mut ItemResultCounts,
@@ -213,33 +222,33 @@ pub fn run_judge_subcommand<
     requires { W.broken out.old ≡ false }
 {
     let bytes = input.trees.bytes;
-    if words.get_flag("quiet") {
-        return judge_items_without_messages(rt, alloc, words, bytes, out);
+    if arguments.get_flag("quiet") {
+        return judge_items_without_messages(rt, alloc, arguments, bytes, out);
     }
     let mut lines = Out::new(Vec::new(alloc));
-    let Ok(telling) = begin_judging_display(rt, alloc, has_progress_line, bytes) else {
-        return write_item_lines_or_memory_refusal(words, lines, Status::Lost, out);
+    let Ok(telling) = begin_judging_progress_display(rt, alloc, has_progress_line, bytes) else {
+        return write_item_lines_or_memory_refusal(arguments, lines, Status::Lost, out);
     };
-    if is_json_selected(words) || words.get_flag("keep-going") {
+    if is_json_selected(arguments) || arguments.get_flag("keep-going") {
         let (status, answered) = judge_all_items_despite_refusals(
             rt,
             alloc,
-            words,
+            arguments,
             bytes,
             telling.steps(),
             &mut lines,
         );
-        telling.end(rt);
-        let status = write_item_lines_or_memory_refusal(words, lines, status, out);
+        telling.end_thread_and_wait(rt);
+        let status = write_item_lines_or_memory_refusal(arguments, lines, status, out);
         count_item_results_and_print_messages(rt, alloc, input, counts, answered);
         return status;
     }
-    let (shown, steps) = (shown_items_from_arguments(words), telling.steps());
+    let (shown, steps) = (shown_items_from_arguments(arguments), telling.steps());
     let (status, judged) = judge_file_with_progress(rt, alloc, bytes, shown, steps, &mut lines);
-    telling.end(rt);
-    let status = write_item_lines_or_memory_refusal(words, lines, status, out);
+    telling.end_thread_and_wait(rt);
+    let status = write_item_lines_or_memory_refusal(arguments, lines, status, out);
     if let Some(judged) = &judged {
-        counts.add_all(judged.judged.as_slice());
+        counts.add_judged_items(judged.judged.as_slice());
     }
     print_messages_on_judged_runs(rt, alloc, input, judged);
     status

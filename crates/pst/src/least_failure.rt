@@ -3,7 +3,7 @@
 
 use crate::run_explanation;
 use pst_case::{Case, Command, History, Reply};
-use pst_cli::explanation_of_run_unless_explained;
+use pst_cli::compile_model_and_explain_failed_run;
 use pst_driver::has_only_value_replies;
 use pst_value::Items;
 use std::alloc::{AllocError, Global};
@@ -73,7 +73,7 @@ fn two_empty_branches<T: Drop>(alloc: Global) -> Result<Items<Items<T>>, AllocEr
 }
 
 /// Returns a run of one command.
-fn run_of_one_command(
+fn case_and_history_of_one_command(
     alloc: Global,
     command: &Command,
     reply: &Reply,
@@ -117,8 +117,8 @@ fn note_if_first_call_is_wrong(
     let Some((command, reply)) = first_command_and_reply_if_certain(case, history) else {
         return Ok("");
     };
-    let (case, history) = run_of_one_command(alloc, command, reply)?;
-    match explanation_of_run_unless_explained(alloc, input, case, history, usize::MAX)? {
+    let (case, history) = case_and_history_of_one_command(alloc, command, reply)?;
+    match compile_model_and_explain_failed_run(alloc, input, case, history, usize::MAX)? {
         Some(text) => match std::str::from_utf8(text.as_slice()) {
             Ok(text) => Ok(note_if_explanation_finds_call_wrong(text)),
             Err(_) => Ok(""),
@@ -129,7 +129,7 @@ fn note_if_first_call_is_wrong(
 
 /// Writes why no interleaving explains the least failure of a campaign, to standard error, and a note if one applies. The
 /// lines of the explanation have at most `line_width` bytes. The model is at the beginning of `input`. If an allocation fails or a text cannot be written, nothing else is said.
-pub fn print_least_failure_with_note_to_stderr<R: Eprint>(
+pub fn print_least_failure_explanation_with_note<R: Eprint>(
     rt: &R,
     alloc: Global,
     input: &[u8],
@@ -145,7 +145,7 @@ pub fn print_least_failure_with_note_to_stderr<R: Eprint>(
         ""
     };
     let note = note_if_first_call_is_wrong(alloc, input, &case, &history);
-    run_explanation::print_run_explanation_to_stderr(
+    run_explanation::print_explanation_if_run_failed(
         rt,
         alloc,
         "the least failure:",

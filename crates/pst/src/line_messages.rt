@@ -1,11 +1,14 @@
 //! The messages on the refused lines of a stream, on standard error.
 
 use crate::input::STANDARD_INPUT;
-use pst_cli::RefusedLines;
-use pst_json_runs::is_json_item_line;
+use pst_cli::RefusedLineReceiver;
+use pst_json_runs::begins_like_json_item;
 use pst_messages::{MessageScope, has_model_at_start, input_error_notices};
 use pst_sexpr::{MAX_BYTES, read};
-use pst_sources::{Input, Notices, Place, SourceFile, Span, first_line, joined, place_on, tree_at};
+use pst_sources::{
+    Input, Notices, Place, SourceFile, Span, joined_text_of_files, place_of_span_on_line,
+    start_of_first_line, tree_at,
+};
 use std::alloc::{AllocError, Global};
 
 /// What a line of a stream has to be.
@@ -38,7 +41,7 @@ pub struct RefusedLineMessages<'a, R: Eprint + AllocGlobal> {
 }
 
 /// Returns a copy of the bytes.
-fn copy_line_bytes(alloc: Global, bytes: &[u8]) -> Result<Vec<u8>, AllocError> {
+fn copy_bytes_into_new_vector(alloc: Global, bytes: &[u8]) -> Result<Vec<u8>, AllocError> {
     let mut copy = Vec::new(alloc);
     copy.extend_from_slice(bytes)?;
     Ok(copy)
@@ -62,7 +65,7 @@ fn first_error_in_last_file(
     alloc: Global,
     files: &[SourceFile<'_>],
 ) -> Result<Option<LineFault>, AllocError> {
-    let text = joined(alloc, files)?;
+    let text = joined_text_of_files(alloc, files)?;
     let input = Input {
         files,
         bytes: text.as_slice(),
@@ -83,21 +86,24 @@ fn first_error_in_last_file(
 }
 
 /// The file that a line is in the messages on it.
-fn source_file_of_line(alloc: Global, line: &[u8]) -> Result<SourceFile<'static>, AllocError> {
+fn line_as_standard_input_file(
+    alloc: Global,
+    line: &[u8],
+) -> Result<SourceFile<'static>, AllocError> {
     Ok(SourceFile {
         name: STANDARD_INPUT,
-        bytes: copy_line_bytes(alloc, line)?,
+        bytes: copy_bytes_into_new_vector(alloc, line)?,
     })
 }
 
 /// Returns whether the tree at `span` begins with `byte`.
-fn has_first_byte(line: &[u8], span: Span, byte: u8) -> bool {
+fn has_byte_at_span_start(line: &[u8], span: Span, byte: u8) -> bool {
     line.get(span.start) == Some(&byte)
 }
 
 /// Returns what is wrong, and where, on a line that has two trees or more.
-fn place_and_fault_of_two_trees(line: &[u8], first: Span) -> (Span, &'static str) {
-    if has_first_byte(line, first, b'(') {
+fn place_and_fault_of_several_trees(line: &[u8], first: Span) -> (Span, &'static str) {
+    if has_byte_at_span_start(line, first, b'(') {
         (
             tree_at(line, first.end),
             "a second item begins here: a line of a stream has one",
@@ -113,12 +119,12 @@ fn place_and_fault_unless_one_item(line: &[u8], count: usize) -> Option<(Span, &
     if count == 0 {
         return Some((first, "there is no item on this line"));
     }
-    if has_first_byte(line, first, b'{') {
+    if has_byte_at_span_start(line, first, b'{') {
         let what = "the `{` of an item as JSON has to be the first character of its line";
         return Some((first, what));
     }
     if count > 1 {
-        return Some(place_and_fault_of_two_trees(line, first));
+        return Some(place_and_fault_of_several_trees(line, first));
     }
     if has_model_at_start(line) {
         return Some((
@@ -135,7 +141,7 @@ fn fault_of_line_unless_one_item(
     line: &[u8],
 ) -> Result<Option<LineFault>, AllocError> {
     let Ok(trees) = read(alloc, line) else {
-        return first_error_in_last_file(alloc, &[source_file_of_line(alloc, line)?]);
+        return first_error_in_last_file(alloc, &[line_as_standard_input_file(alloc, line)?]);
     };
     match place_and_fault_unless_one_item(line, trees.len()) {
         Some((span, what)) => Ok(Some(line_fault_without_notes(alloc, span, what)?)),
@@ -190,12 +196,16 @@ impl<'a, R: Eprint + AllocGlobal> RefusedLineMessages<'a, R> {
     }
 
     /// Returns the fault of the item on a line, or none.
-    fn item_fault(&self, alloc: Global, line: &[u8]) -> Result<Option<LineFault>, AllocError> {
+    fn fault_of_item_on_line(
+        &self,
+        alloc: Global,
+        line: &[u8],
+    ) -> Result<Option<LineFault>, AllocError> {
         let model = SourceFile {
             name: self.name,
-            bytes: copy_line_bytes(alloc, self.model)?,
+            bytes: copy_bytes_into_new_vector(alloc, self.model)?,
         };
-        first_error_in_last_file(alloc, &[model, source_file_of_line(alloc, line)?])
+        first_error_in_last_file(alloc, &[model, line_as_standard_input_file(alloc, line)?])
     }
 
     /// Returns what is wrong with a refused line.
@@ -204,14 +214,14 @@ impl<'a, R: Eprint + AllocGlobal> RefusedLineMessages<'a, R> {
         if line.len() > MAX_BYTES {
             return line_fault_without_notes(alloc, start, "the line is longer than 1 MiB");
         }
-        if !is_json_item_line(line) {
+        if !begins_like_json_item(line) {
             if let Some(found) = fault_of_line_unless_one_item(alloc, line)? {
                 return Ok(found);
             }
         }
         let together = self.model.len().saturating_add(line.len());
         if together < MAX_BYTES {
-            if let Some(found) = self.item_fault(alloc, line)? {
+            if let Some(found) = self.fault_of_item_on_line(alloc, line)? {
                 return Ok(found);
             }
         }
@@ -231,7 +241,7 @@ impl<'a, R: Eprint + AllocGlobal> RefusedLineMessages<'a, R> {
             column,
             text,
             marks,
-        } = place_on(alloc, line, first_line(), span)?;
+        } = place_of_span_on_line(alloc, line, start_of_first_line(), span)?;
         let mut message = format!(in alloc; "{STANDARD_INPUT}:{number}:{column}: {what}\n")?;
         if !line.is_empty() {
             message.push_str(format!(in alloc; "    {text}\n    {marks}\n")?.as_str())?;
@@ -241,8 +251,8 @@ impl<'a, R: Eprint + AllocGlobal> RefusedLineMessages<'a, R> {
     }
 }
 
-impl<'a, R: Eprint + AllocGlobal> RefusedLines for RefusedLineMessages<'a, R> {
-    fn takes_more(&self) -> bool {
+impl<'a, R: Eprint + AllocGlobal> RefusedLineReceiver for RefusedLineMessages<'a, R> {
+    fn takes_more_lines(&self) -> bool {
         self.left > 0
     }
 

@@ -34,12 +34,12 @@ mod running;
 mod saving;
 mod stop_file;
 mod streaming;
+mod subcommands;
 mod summary;
 mod systems;
 mod terminal;
 mod warnings;
 mod watching;
-mod words;
 
 use pst_cli::KnownSystem;
 use pst_samples::{Counter, Meet, Queue, Racy, Registry, Stuck};
@@ -108,11 +108,14 @@ fn main(rt: HostRuntime) -> ExitCode {
                 output: rt.stdout().is_terminal(),
                 errors: rt.stderr().is_terminal(),
             };
-            let started = match arguments::program_arguments(&rt) {
+            let started = match arguments::read_program_arguments_or_refuse(&rt) {
                 Ok(started) => started,
                 Err(status) => return status.code(),
             };
-            let matches = match arguments::parse_arguments(&rt, started.as_slice()) {
+            let matches = match arguments::parse_arguments_else_print_help_or_error(
+                &rt,
+                started.as_slice(),
+            ) {
                 Ok(matches) => matches,
                 Err(status) => return status.code(),
             };
@@ -122,7 +125,7 @@ fn main(rt: HostRuntime) -> ExitCode {
             };
             let misfits = &prepared.misfits;
             let mut systems: SystemsResult = Ok(Vec::new(alloc));
-            if let Some((wanted, count)) = systems::systems_from_arguments(&matches) {
+            if let Some((wanted, count)) = systems::systems_and_count_from_arguments(&matches) {
                 for worker in 0..count {
                     let system: Result<BoxedSystem, SystemsError> = match wanted {
                         ChosenSystems::Known(known) => known_system!(rt, alloc, misfits, known),
@@ -132,7 +135,7 @@ fn main(rt: HostRuntime) -> ExitCode {
                                 &rt,
                                 folder,
                                 worker,
-                                prepared.input().bytes,
+                                prepared.input_with_items_as_trees().bytes,
                                 &prepared.notes,
                             ) {
                                 Ok(clients) => Ok(clients),
@@ -142,7 +145,9 @@ fn main(rt: HostRuntime) -> ExitCode {
                     systems = systems_with_added_system(systems, system);
                 }
             }
-            let Ok(has_appeared) = stop_file::shared_stop_file_flag(&rt, alloc, &matches) else {
+            let Ok(has_appeared) = stop_file::shared_flag_whether_stop_file_exists(
+                &rt, alloc, &matches,
+            ) else {
                 return refused::print_memory_refusal(&rt).code();
             };
             let shared = stop_file::stop_file_state_for_campaign_and_thread(
@@ -160,7 +165,7 @@ fn main(rt: HostRuntime) -> ExitCode {
                 },
                 None => None,
             };
-            let status = running::run_subcommand_while_watching(
+            let status = running::run_subcommand_while_watching_clients(
                 rt,
                 &matches,
                 &prepared,
@@ -169,7 +174,7 @@ fn main(rt: HostRuntime) -> ExitCode {
                 has_appeared,
             );
             if let Some(stop_file) = stop_file {
-                stop_file.end(&rt);
+                stop_file.end_thread_and_wait(&rt);
             }
             status.code()
         });

@@ -13,12 +13,12 @@ pub type SharedMisfits = Arc<Misfits, Global>;
 
 /// Returns an empty list for the misfits of `run`. `None` for other commands, if the arguments forbid messages, and if
 /// an allocation fails.
-pub fn new_misfits_if_run_is_not_quiet(
+pub fn new_misfit_list_for_run_unless_quiet(
     alloc: Global,
     matches: &ArgMatches<'_>,
 ) -> Option<SharedMisfits> {
-    let (word, words) = matches.subcommand()?;
-    if word != "run" || words.get_flag("quiet") {
+    let (subcommand, arguments) = matches.subcommand()?;
+    if subcommand != "run" || arguments.get_flag("quiet") {
         return None;
     }
     Arc::new(alloc, Misfits::new(alloc).ok()?).ok()
@@ -41,7 +41,7 @@ pub fn boxed_misfit_recorder<S: System>(
 /// Compares answers from now on with the model at the beginning of `input`, if it can be loaded.
 pub fn set_model_of_misfits_if_it_loads(alloc: Global, misfits: &Misfits, input: &[u8]) {
     if let Ok(Ok(file)) = load(alloc, input) {
-        misfits.set_model(file.typed);
+        misfits.set_model_if_unset(file.typed);
     }
 }
 

@@ -47,7 +47,7 @@ impl<W: Write> Write for WriteErrorKeeper<W> {
 }
 
 /// Returns the text of an error without its number.
-fn error_text_without_number(text: &str) -> &str {
+fn text_without_os_error_number(text: &str) -> &str {
     match text.split_once(" (os error ") {
         Some((message, _)) => message,
         None => text,
@@ -56,10 +56,13 @@ fn error_text_without_number(text: &str) -> &str {
 
 /// Returns what an error says, as `no space left on device`: with its first letter in lower case, and without its
 /// number.
-fn error_reason(alloc: Global, error: &io::Error) -> Result<String, AllocError> {
+fn uncapitalized_error_reason_without_number(
+    alloc: Global,
+    error: &io::Error,
+) -> Result<String, AllocError> {
     let whole = format!(in alloc; "{error}")?;
     let mut reason = String::new(alloc);
-    for character in error_text_without_number(whole.as_str()).chars() {
+    for character in text_without_os_error_number(whole.as_str()).chars() {
         if reason.is_empty() {
             reason.push(character.to_ascii_lowercase())?;
         } else {
@@ -77,14 +80,14 @@ pub fn print_file_error_to_stderr<R: Eprint>(
     name: &str,
     error: &io::Error,
 ) {
-    let _ = match error_reason(alloc, error) {
+    let _ = match uncapitalized_error_reason_without_number(alloc, error) {
         Ok(reason) => eprintln!(rt; "pst: cannot {verb} {name}: {reason}"),
         Err(AllocError) => eprintln!(rt; "pst: cannot {verb} {name}"),
     };
 }
 
 /// Writes to standard error that the file `name` cannot be written, and why.
-pub fn print_unwritten_file_to_stderr<R: Eprint>(
+pub fn print_why_file_was_not_written<R: Eprint>(
     rt: &R,
     alloc: Global,
     name: &str,
@@ -95,7 +98,7 @@ pub fn print_unwritten_file_to_stderr<R: Eprint>(
 
 /// Returns the status of a command whose output, to the file `name` or to standard output, cannot be written.
 /// Standard error says why, but not for a closed pipe, as in `pst judge c.runs | head -n 1`.
-pub fn print_lost_output_unless_pipe_closed<R: Eprint>(
+pub fn print_output_error_unless_pipe_closed<R: Eprint>(
     rt: &R,
     alloc: Global,
     name: Option<&str>,
@@ -103,7 +106,7 @@ pub fn print_lost_output_unless_pipe_closed<R: Eprint>(
 ) -> Status {
     if error.kind() != ErrorKind::BrokenPipe {
         match name {
-            Some(name) => print_unwritten_file_to_stderr(rt, alloc, name, error),
+            Some(name) => print_why_file_was_not_written(rt, alloc, name, error),
             None => print_file_error_to_stderr(rt, alloc, "write to", "standard output", error),
         }
     }
@@ -111,7 +114,7 @@ pub fn print_lost_output_unless_pipe_closed<R: Eprint>(
 }
 
 /// Returns whether two names are those of one file, also by links.
-fn is_same_file<R: Files + AllocGlobal>(rt: &R, first: &str, second: &str) -> bool {
+fn are_names_of_same_file<R: Files + AllocGlobal>(rt: &R, first: &str, second: &str) -> bool {
     if first == second {
         return true;
     }
@@ -122,13 +125,13 @@ fn is_same_file<R: Files + AllocGlobal>(rt: &R, first: &str, second: &str) -> bo
 }
 
 /// Returns the name among `inputs` that is one of the file `output`, if there is one.
-fn overwritten_input<'a, R: Files + AllocGlobal>(
+fn find_input_overwritten_by_output<'a, R: Files + AllocGlobal>(
     rt: &R,
     inputs: &[&'a str],
     output: &str,
 ) -> Option<&'a str> {
     for input in inputs {
-        if *input != STANDARD_INPUT && is_same_file(rt, input, output) {
+        if *input != STANDARD_INPUT && are_names_of_same_file(rt, input, output) {
             return Some(*input);
         }
     }
@@ -147,7 +150,7 @@ pub fn refuse_to_overwrite_input<R: Runtime + AllocGlobal>(
     let Some(output) = output else {
         return Ok(());
     };
-    let Some(input) = overwritten_input(rt, inputs, output) else {
+    let Some(input) = find_input_overwritten_by_output(rt, inputs, output) else {
         return Ok(());
     };
     if !is_quiet {

@@ -1,7 +1,7 @@
 //! The page of a campaign's failures: `pst campaign --html FILE`.
 
 use crate::input::STANDARD_INPUT;
-use crate::outputs::print_unwritten_file_to_stderr;
+use crate::outputs::print_why_file_was_not_written;
 use clap::{Arg, ArgMatches};
 use pst_cli::{CampaignNotes, Status, campaign_failures_html_page};
 use pst_sources::{Input, SourceFile};
@@ -19,13 +19,13 @@ pub fn html_option<'a>(alloc: Global) -> Arg<'a> {
 
 /// Returns the name of the file of the page, if the arguments give one.
 pub fn html_file_name_from_arguments<'a>(matches: &ArgMatches<'a>) -> Option<&'a str> {
-    let (_, words) = matches.subcommand()?;
-    words.get_str("html")
+    let (_, arguments) = matches.subcommand()?;
+    arguments.get_str("html")
 }
 
 /// The page that the arguments of a campaign choose.
 #[derive(Clone, Copy, Drop)]
-pub struct CampaignPageOptions<'a> {
+pub struct OptionalCampaignPage<'a> {
     /// The name of its file; `None`: no page is written.
     name: Option<&'a str>,
     /// The files of the input.
@@ -34,7 +34,7 @@ pub struct CampaignPageOptions<'a> {
 
 /// Opens the file `name` to write it and leaves it as it is, or makes it and removes it if it is not there.
 /// Pipes and devices are not opened.
-fn check_file_can_be_written<R: Files>(rt: &R, name: &str) -> io::Result<()> {
+fn check_writable_by_opening_or_creating_file<R: Files>(rt: &R, name: &str) -> io::Result<()> {
     match metadata(rt, name) {
         Ok(found) if found.is_file() || found.is_dir() => {
             OpenOptions::new().write(true).open(rt, name)?;
@@ -63,21 +63,24 @@ pub fn refuse_unwritable_html_page<R: Files + Eprint + AllocGlobal>(
         );
         return Err(Status::Refused);
     }
-    match check_file_can_be_written(rt, name) {
+    match check_writable_by_opening_or_creating_file(rt, name) {
         Ok(()) => Ok(()),
         Err(error) => {
-            print_unwritten_file_to_stderr(rt, rt.alloc(), name, &error);
+            print_why_file_was_not_written(rt, rt.alloc(), name, &error);
             Err(Status::Lost)
         }
     }
 }
 
-impl<'a> CampaignPageOptions<'a> {
+impl<'a> OptionalCampaignPage<'a> {
     /// The page that the arguments choose.
-    pub fn from_arguments(words: &'a ArgMatches<'_>, input: Input<'a>) -> CampaignPageOptions<'a> {
+    pub fn from_arguments(
+        arguments: &'a ArgMatches<'_>,
+        input: Input<'a>,
+    ) -> OptionalCampaignPage<'a> {
         let Input { files, bytes: _ } = input;
-        CampaignPageOptions {
-            name: words.get_str("html"),
+        OptionalCampaignPage {
+            name: arguments.get_str("html"),
             files,
         }
     }
@@ -109,7 +112,7 @@ impl<'a> CampaignPageOptions<'a> {
         match std::fs::write(rt, name, page.as_slice()) {
             Ok(()) => Status::Accepted,
             Err(error) => {
-                print_unwritten_file_to_stderr(rt, alloc, name, &error);
+                print_why_file_was_not_written(rt, alloc, name, &error);
                 Status::Lost
             }
         }

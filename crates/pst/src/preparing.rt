@@ -1,13 +1,13 @@
 //! What a command has before its systems are made: its input, and places for what clients and systems do wrong.
 
 use crate::clients::{SharedClientNotes, new_client_notes};
-use crate::misfits::{SharedMisfits, new_misfits_if_run_is_not_quiet};
+use crate::misfits::{SharedMisfits, new_misfit_list_for_run_unless_quiet};
 use crate::reading::{InputFiles, check_and_read_input_or_run_fmt};
 use crate::refused;
 use crate::terminal::Terminals;
 use clap::ArgMatches;
 use pst_cli::Status;
-use pst_sources::{Input, SourceFile, joined};
+use pst_sources::{Input, SourceFile, joined_text_of_files};
 use std::alloc::{AllocError, Global};
 use std::rt::Runtime;
 
@@ -25,14 +25,14 @@ pub struct PreparedInput<'a> {
 
 impl<'a> PreparedInput<'a> {
     /// The files as they were read.
-    pub fn files(&self) -> &[SourceFile<'a>] {
-        self.files.as_read()
+    pub fn source_files_as_read(&self) -> &[SourceFile<'a>] {
+        self.files.files_as_read()
     }
 
     /// The input with a tree in place of each JSON item.
-    pub fn input(&self) -> Input<'_> {
+    pub fn input_with_items_as_trees(&self) -> Input<'_> {
         Input {
-            files: self.files.as_trees(),
+            files: self.files.files_with_items_as_trees(),
             bytes: self.text.as_slice(),
         }
     }
@@ -44,9 +44,9 @@ fn prepared_input_from_files<'a>(
     matches: &ArgMatches<'_>,
     files: InputFiles<'a>,
 ) -> Result<PreparedInput<'a>, AllocError> {
-    let text = joined(alloc, files.as_trees())?;
+    let text = joined_text_of_files(alloc, files.files_with_items_as_trees())?;
     let notes = new_client_notes(alloc)?;
-    let misfits = new_misfits_if_run_is_not_quiet(alloc, matches);
+    let misfits = new_misfit_list_for_run_unless_quiet(alloc, matches);
     Ok(PreparedInput {
         files,
         text,

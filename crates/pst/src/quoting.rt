@@ -8,7 +8,10 @@ fn is_safe_unquoted_in_shell(character: char) -> bool {
 }
 
 /// Adds an argument to the text of a command, between quotes if a shell would not read it as one word.
-pub fn push_shell_word(command: &mut String, argument: &str) -> Result<(), AllocError> {
+pub fn push_shell_argument_quoted_if_needed(
+    command: &mut String,
+    argument: &str,
+) -> Result<(), AllocError> {
     if !argument.is_empty()
         && argument
             .chars()

@@ -13,17 +13,17 @@ use std::io;
 use std::rt::Runtime;
 
 /// Returns whether the arguments forbid messages on standard error.
-pub fn is_quiet(matches: &ArgMatches<'_>) -> bool {
+pub fn is_quiet_selected(matches: &ArgMatches<'_>) -> bool {
     match matches.subcommand() {
-        Some((_, words)) => words.get_flag("quiet"),
+        Some((_, arguments)) => arguments.get_flag("quiet"),
         None => false,
     }
 }
 
 /// Returns the name of the output file in the arguments. `None` is standard output, which `-` also names.
 pub fn output_file_name_from_arguments<'a>(matches: &ArgMatches<'a>) -> Option<&'a str> {
-    let (_, words) = matches.subcommand()?;
-    match words.get_str("output") {
+    let (_, arguments) = matches.subcommand()?;
+    match arguments.get_str("output") {
         Some(STANDARD_INPUT) => None,
         name => name,
     }
@@ -32,7 +32,7 @@ pub fn output_file_name_from_arguments<'a>(matches: &ArgMatches<'a>) -> Option<&
 /// Returns the file names in the arguments.
 fn input_file_names_from_arguments<'a>(matches: &'a ArgMatches<'_>) -> &'a [&'a str] {
     match matches.subcommand() {
-        Some((_, words)) => words.get_strs("FILE").unwrap_or(&[]),
+        Some((_, arguments)) => arguments.get_strs("FILE").unwrap_or(&[]),
         None => &[],
     }
 }
@@ -45,15 +45,15 @@ fn refuse_invalid_arguments<R: Runtime + AllocGlobal>(
     matches: &ArgMatches<'_>,
 ) -> Result<(), Status> {
     let mut out = Out::new(io::writer(rt));
-    let is_quiet = is_quiet(matches);
+    let is_quiet = is_quiet_selected(matches);
     let inputs = input_file_names_from_arguments(matches);
-    if let Some((command, name)) = systems::unknown_system_in_arguments(matches) {
+    if let Some((command, name)) = systems::subcommand_and_unknown_system_name(matches) {
         return Err(systems::refuse_unopened_file_or_unknown_system(
             rt, command, name, inputs, is_quiet, &mut out,
         ));
     }
     if streaming::is_item_stream_selected(matches) && !streaming::is_model_file_alone(inputs) {
-        return Err(streaming::refuse_stream(rt, inputs, is_quiet, &mut out));
+        return Err(streaming::refuse_stream_with_wrong_files(rt, inputs, is_quiet, &mut out));
     }
     outputs::refuse_to_overwrite_input(
         rt,
@@ -70,7 +70,7 @@ fn refuse_invalid_arguments<R: Runtime + AllocGlobal>(
         is_quiet,
     )?;
     saving::refuse_file_as_save_folder(rt, matches)?;
-    generating::refuse_trial_numbers_beyond_64_bits(rt, matches)?;
+    generating::refuse_generate_trial_numbers_that_overflow(rt, matches)?;
     page::refuse_unwritable_html_page(rt, matches)
 }
 
@@ -85,12 +85,12 @@ pub struct InputFiles<'a> {
 
 impl<'a> InputFiles<'a> {
     /// The files as they were read.
-    pub fn as_read(&self) -> &[SourceFile<'a>] {
+    pub fn files_as_read(&self) -> &[SourceFile<'a>] {
         self.read.as_slice()
     }
 
     /// The files with a tree in place of each JSON item.
-    pub fn as_trees(&self) -> &[SourceFile<'a>] {
+    pub fn files_with_items_as_trees(&self) -> &[SourceFile<'a>] {
         match &self.trees {
             Some(trees) => trees.as_slice(),
             None => self.read.as_slice(),
@@ -107,17 +107,21 @@ pub fn check_and_read_input_or_run_fmt<'a, R: Runtime + AllocGlobal>(
 ) -> Result<InputFiles<'a>, Status> {
     refuse_invalid_arguments(rt, matches)?;
     let reading = InputOptions {
-        is_quiet: is_quiet(matches),
+        is_quiet: is_quiet_selected(matches),
         is_terminal: terminals.input,
     };
-    if let Some(("fmt", words)) = matches.subcommand() {
-        return Err(formatting::run_fmt_subcommand(rt, words, reading));
+    if let Some(("fmt", arguments)) = matches.subcommand() {
+        return Err(formatting::run_fmt_subcommand(rt, arguments, reading));
     }
-    let read = match input::read_files(rt, input_file_names_from_arguments(matches), reading) {
+    let read = match input::read_files_or_standard_input(
+        rt,
+        input_file_names_from_arguments(matches),
+        reading,
+    ) {
         Ok(read) => read,
         Err(why) => return Err(refuse_text(why, &mut Out::new(io::writer(rt)))),
     };
-    match json_items::source_files_with_json_as_trees_or_cut(rt.alloc(), read.as_slice()) {
+    match json_items::source_files_with_json_replaced_or_removed(rt.alloc(), read.as_slice()) {
         Ok(trees) => Ok(InputFiles { read, trees }),
         Err(_) => Err(refused::print_memory_refusal(rt)),
     }

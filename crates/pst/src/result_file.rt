@@ -1,6 +1,6 @@
 //! The file that `-o` names. If the input is refused, the refusal goes to standard output, and the file stays as it is.
 
-use crate::words::is_json_selected;
+use crate::subcommands::is_json_selected;
 use clap::ArgMatches;
 use pst_cli::Status;
 use std::fs::{OpenFile, OpenOptions};
@@ -34,24 +34,26 @@ enum OutputDestination {
 /// A writer that empties a file and writes to it, or writes to standard output and leaves the file as it is if the output
 /// is a refusal.
 #[derive(Drop)]
-pub struct ResultFile<'a, R, F> {
+pub struct ResultFileUnlessRefused<'a, R, F> {
     rt: &'a R,
     file: F,
     /// Whether an output has a line or an object for each item, also if items are refused.
-    has_refused_items: bool,
+    lists_refused_items: bool,
     route: OutputDestination,
 }
 
 /// Opens the file `name`, or makes it, and leaves what is in it.
-pub fn open_to_write_without_emptying<R: Files>(rt: &R, name: &str) -> io::Result<R::File> {
+pub fn open_or_create_file_without_emptying<R: Files>(rt: &R, name: &str) -> io::Result<R::File> {
     OpenOptions::new().write(true).create(true).open(rt, name)
 }
 
 /// Returns whether the arguments choose an output with a line or an object for each item, also if items are refused.
-pub fn has_refused_items_in_output(matches: &ArgMatches<'_>) -> bool {
+pub fn does_output_list_refused_items(matches: &ArgMatches<'_>) -> bool {
     match matches.subcommand() {
-        Some(("judge", words)) => {
-            words.get_flag("keep-going") || words.get_flag("stream") || is_json_selected(words)
+        Some(("judge", arguments)) => {
+            arguments.get_flag("keep-going")
+                || arguments.get_flag("stream")
+                || is_json_selected(arguments)
         }
         _ => false,
     }
@@ -72,36 +74,36 @@ fn is_start_of_refused_item(bytes: &[u8]) -> bool {
 }
 
 /// Returns whether an output that begins with `bytes` is the refusal of the input.
-fn is_start_of_input_refusal(bytes: &[u8], has_refused_items: bool) -> bool {
+fn is_start_of_input_refusal(bytes: &[u8], lists_refused_items: bool) -> bool {
     if is_start_of_refused_item(bytes) {
-        return !has_refused_items;
+        return !lists_refused_items;
     }
     bytes.starts_with(REFUSAL) || bytes.starts_with(REFUSAL_OBJECT)
 }
 
-impl<'a, R: Print, F: Write + OpenFile> ResultFile<'a, R, F> {
+impl<'a, R: Print, F: Write + OpenFile> ResultFileUnlessRefused<'a, R, F> {
     /// A writer to `file`, or to the standard output of `rt`.
-    pub fn new(rt: &'a R, file: F, has_refused_items: bool) -> ResultFile<'a, R, F> {
-        ResultFile {
+    pub fn new(rt: &'a R, file: F, lists_refused_items: bool) -> ResultFileUnlessRefused<'a, R, F> {
+        ResultFileUnlessRefused {
             rt,
             file,
-            has_refused_items,
+            lists_refused_items,
             route: OutputDestination::Undecided,
         }
     }
 
     /// Returns whether the output went to the file.
-    pub fn has_written_to_file(&self) -> bool {
+    pub fn has_chosen_file(&self) -> bool {
         self.route == OutputDestination::ToFile
     }
 
     /// Returns whether the output, a refusal, went to standard output.
-    pub fn has_written_to_standard_output(&self) -> bool {
+    pub fn has_chosen_standard_output(&self) -> bool {
         self.route == OutputDestination::ToStandardOutput
     }
 
     /// Empties the file. Pipes and devices have nothing to remove.
-    fn empty_file(&self) -> io::Result<()> {
+    fn empty_file_if_regular(&self) -> io::Result<()> {
         if self.file.metadata()?.is_file() {
             self.file.set_len(0)?;
         }
@@ -109,30 +111,30 @@ impl<'a, R: Print, F: Write + OpenFile> ResultFile<'a, R, F> {
     }
 
     /// Chooses where an output goes that begins with `bytes`.
-    fn choose_destination_and_empty_file(&mut self, bytes: &[u8]) -> io::Result<()> {
-        if is_start_of_input_refusal(bytes, self.has_refused_items) {
+    fn choose_destination_and_empty_chosen_file(&mut self, bytes: &[u8]) -> io::Result<()> {
+        if is_start_of_input_refusal(bytes, self.lists_refused_items) {
             self.route = OutputDestination::ToStandardOutput;
         } else {
-            self.empty_file()?;
+            self.empty_file_if_regular()?;
             self.route = OutputDestination::ToFile;
         }
         Ok(())
     }
 
     /// Empties the file if a command that was not refused wrote nothing.
-    pub fn empty_file_if_nothing_was_written(&mut self, status: Status) -> io::Result<()> {
+    pub fn empty_file_if_finished_without_output(&mut self, status: Status) -> io::Result<()> {
         match (self.route, status) {
             (OutputDestination::Undecided, Status::Accepted | Status::Failed) =>
-                self.choose_destination_and_empty_file(&[]),
+                self.choose_destination_and_empty_chosen_file(&[]),
             _ => Ok(()),
         }
     }
 }
 
-impl<R: Print, F: Write + OpenFile> Write for ResultFile<'_, R, F> {
+impl<R: Print, F: Write + OpenFile> Write for ResultFileUnlessRefused<'_, R, F> {
     fn write(&mut self, buf: &[u8]) -> io::Result<usize> {
         if self.route == OutputDestination::Undecided {
-            self.choose_destination_and_empty_file(buf)?;
+            self.choose_destination_and_empty_chosen_file(buf)?;
         }
         if self.route == OutputDestination::ToStandardOutput {
             io::writer(self.rt).write(buf)

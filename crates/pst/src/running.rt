@@ -9,15 +9,19 @@ use crate::judging::run_judge_subcommand;
 use crate::outputs::WriteErrorKeeper;
 use crate::preparing::PreparedInput;
 use crate::reading::output_file_name_from_arguments;
-use crate::result_file::{ResultFile, has_refused_items_in_output, open_to_write_without_emptying};
-use crate::systems::{SystemsError, system_name_from_arguments};
+use crate::result_file::{
+    ResultFileUnlessRefused, does_output_list_refused_items, open_or_create_file_without_emptying,
+};
+use crate::systems::{SystemsError, system_name_from_arguments_or_empty};
 use crate::terminal::{Terminals, line_width_of_environment_or_default};
 use crate::{
     client_watch, clients, converting, explaining, generating, json_notices, outputs, refused,
     stop_file, streaming, summary, warnings,
 };
 use clap::ArgMatches;
-use pst_cli::{Absence, ItemResultCounts, Status, check_json, check_text, list_text, refuse_text};
+use pst_cli::{
+    Absence, ItemResultCounts, Status, check_text, check_with_json_output, list_text, refuse_text,
+};
 use pst_messages::ItemInput;
 use pst_sexpr::{Out, Sink};
 use pst_sources::Input;
@@ -34,14 +38,14 @@ use std::time::Clock;
 /// The systems that the arguments name.
 pub type SystemsResult = Result<Vec<BoxedSystem>, SystemsError>;
 
-/// Runs cases or trials on the systems, or refuses if they were not made. `words` are the arguments of the subcommand.
+/// Runs cases or trials on the systems, or refuses if they were not made. `arguments` are the arguments of the subcommand.
 fn run_subcommand_on_systems<
     W: Sink,
     R: Threads + Wait + Sync + Eprint + Files + Clock + AllocGlobal + Copy + Drop + Send + 'static,
 >(
     rt: &R,
     context: SubcommandContext<'_, '_>,
-    words: &ArgMatches<'_>,
+    arguments: &ArgMatches<'_>,
     input: Input<'_>,
     systems: SystemsResult,
     counts: &mut ItemResultCounts,
@@ -53,17 +57,17 @@ fn run_subcommand_on_systems<
         Ok(systems) => systems,
         Err(SystemsError::NoMemory) => return refuse_text(Absence::NoMemory, out),
         Err(SystemsError::NoPipes(error)) => {
-            let name = system_name_from_arguments(words);
-            clients::print_unopened_pipes_unless_quiet(rt, words, name, &error);
+            let name = system_name_from_arguments_or_empty(arguments);
+            clients::print_client_pipe_error_unless_quiet(rt, arguments, name, &error);
             return refuse_text(Absence::NoSystem(name), out);
         }
     };
     match context.matches.subcommand_name() {
         Some("run") => {
             let Input { files: _, bytes } = input;
-            drive_items_on_system_or_refuse(rt, context, words, systems, bytes, counts, out)
+            drive_items_on_system_or_refuse(rt, context, arguments, systems, bytes, counts, out)
         }
-        _ => run_campaign_subcommand(rt, context, words, systems, input, out),
+        _ => run_campaign_subcommand(rt, context, arguments, systems, input, out),
     }
 }
 
@@ -81,63 +85,71 @@ fn run_subcommand<
 ) -> Status
     requires { W.broken out.old ≡ false }
 {
-    let Some((word, words)) = context.matches.subcommand() else {
+    let Some((subcommand, arguments)) = context.matches.subcommand() else {
         return Status::Refused;
     };
     let (alloc, terminals) = (rt.alloc(), context.terminals);
     let Input { files: _, bytes } = input;
-    match word {
-        "check" if json_notices::has_notices_in_output(word, words) => {
-            let notices = json_notices::json_lines_of_notices_unless_quiet(alloc, words, &input);
-            check_json(alloc, bytes, notices.as_slice(), out)
+    match subcommand {
+        "check" if json_notices::is_check_with_json_output(subcommand, arguments) => {
+            let notices = json_notices::json_lines_of_notices_unless_quiet(
+                alloc, arguments, &input,
+            );
+            check_with_json_output(alloc, bytes, notices.as_slice(), out)
         }
         "check" => check_text(alloc, bytes, out),
         "list" => list_text(alloc, bytes, out),
-        "generate" => generating::run_generate_subcommand(rt, words, bytes, out),
-        "convert" => converting::run_convert_subcommand(alloc, words, bytes, out),
-        "judge" if words.get_flag("stream") => {
-            streaming::judge_standard_input(rt, words, terminals, bytes, counts, out)
+        "generate" => generating::run_generate_subcommand(rt, arguments, bytes, out),
+        "convert" => converting::run_convert_subcommand(alloc, arguments, bytes, out),
+        "judge" if arguments.get_flag("stream") => {
+            streaming::judge_standard_input_with_messages(
+                rt, arguments, terminals, bytes, counts, out,
+            )
         }
         "judge" => {
             let read = context.files;
             let input = ItemInput { trees: input, read };
-            run_judge_subcommand(rt, alloc, words, terminals.errors, input, counts, out)
+            run_judge_subcommand(rt, alloc, arguments, terminals.errors, input, counts, out)
         }
-        "explain" => explaining::run_explain_subcommand(rt, words, terminals, input, out),
-        _ => run_subcommand_on_systems(rt, context, words, input, systems, counts, out),
+        "explain" => explaining::run_explain_subcommand(rt, arguments, terminals, input, out),
+        _ => run_subcommand_on_systems(rt, context, arguments, input, systems, counts, out),
     }
 }
 
 /// Writes messages on refusals, warnings on a model that `check` accepts, and a line that sums up the items,
 /// to standard error, unless the arguments forbid it.
-fn print_outcome_messages_to_stderr<R: Eprint + AllocGlobal>(
+fn print_outcome_messages_unless_quiet<R: Eprint + AllocGlobal>(
     rt: &R,
     context: SubcommandContext<'_, '_>,
     input: Input<'_>,
     status: Status,
     counts: &ItemResultCounts,
 ) {
-    let Some((word, words)) = context.matches.subcommand() else {
+    let Some((subcommand, arguments)) = context.matches.subcommand() else {
         return;
     };
-    if words.get_flag("quiet") || json_notices::has_notices_in_output(word, words) {
+    if arguments.get_flag("quiet")
+        || json_notices::is_check_with_json_output(subcommand, arguments)
+    {
         return;
     }
     let Input { files, bytes } = input;
     match status {
         Status::Refused => refused::print_refusal_messages_to_stderr(
             rt,
-            word,
-            words,
+            subcommand,
+            arguments,
             context.files,
         ),
-        Status::Accepted if word == "check" => warnings::print_warnings_to_stderr(
+        Status::Accepted if subcommand == "check" => warnings::print_input_warnings_to_stderr(
             rt,
             rt.alloc(),
             files,
             bytes,
         ),
-        _ => summary::print_note_if_input_has_no_items(rt, word, words, bytes, status, counts),
+        _ => summary::print_note_if_input_has_no_items(
+            rt, subcommand, arguments, bytes, status, counts,
+        ),
     }
     summary::print_summary_if_several_items(rt, counts);
 }
@@ -145,7 +157,7 @@ fn print_outcome_messages_to_stderr<R: Eprint + AllocGlobal>(
 /// Runs the subcommand with its output to `writer`, and returns its status and the error of the writer, if it had one.
 /// Unless the arguments forbid it, standard error has a message on each refusal, and warnings on a model that `check`
 /// accepts and after the lines of `judge`. Its last line sums up the items of `judge` and `run`.
-fn run_subcommand_with_output_to_writer<
+fn run_subcommand_with_writer_and_messages<
     W: Write + Drop,
     R: Runtime + AllocGlobal + Threads + Wait + Sync + Copy + Drop + Send + 'static,
 >(
@@ -158,7 +170,7 @@ fn run_subcommand_with_output_to_writer<
     let mut out = Out::new(WriteErrorKeeper::new(writer));
     let mut counts = ItemResultCounts::new();
     let status = run_subcommand(rt, context, input, systems, &mut counts, &mut out);
-    print_outcome_messages_to_stderr(rt, context, input, status, &counts);
+    print_outcome_messages_unless_quiet(rt, context, input, status, &counts);
     if out.has_failed() {
         (status, out.into_inner().last_error())
     } else {
@@ -175,7 +187,7 @@ fn status_after_reporting_output_failure<R: Eprint + AllocGlobal>(
     failure: Option<io::Error>,
 ) -> Status {
     match failure {
-        Some(error) => outputs::print_lost_output_unless_pipe_closed(rt, rt.alloc(), name, &error),
+        Some(error) => outputs::print_output_error_unless_pipe_closed(rt, rt.alloc(), name, &error),
         None => status,
     }
 }
@@ -192,22 +204,26 @@ fn run_subcommand_to_file_unless_refused<
     name: &str,
 ) -> Status {
     let was_there = symlink_metadata(rt, name).is_ok();
-    let file = match open_to_write_without_emptying(rt, name) {
+    let file = match open_or_create_file_without_emptying(rt, name) {
         Ok(file) => file,
-        Err(error) => return outputs::print_lost_output_unless_pipe_closed(
+        Err(error) => return outputs::print_output_error_unless_pipe_closed(
             rt,
             rt.alloc(),
             Some(name),
             &error,
         ),
     };
-    let mut result = ResultFile::new(rt, file, has_refused_items_in_output(context.matches));
+    let mut result = ResultFileUnlessRefused::new(
+        rt,
+        file,
+        does_output_list_refused_items(context.matches),
+    );
     let terminals = context.terminals.with_output_in_a_file();
     let context = SubcommandContext {
         terminals,
         ..context
     };
-    let (status, failure) = run_subcommand_with_output_to_writer(
+    let (status, failure) = run_subcommand_with_writer_and_messages(
         rt,
         context,
         input,
@@ -216,12 +232,12 @@ fn run_subcommand_to_file_unless_refused<
     );
     let failure = match failure {
         Some(error) => Some(error),
-        None => result.empty_file_if_nothing_was_written(status).err(),
+        None => result.empty_file_if_finished_without_output(status).err(),
     };
-    if !result.has_written_to_file() && !was_there {
+    if !result.has_chosen_file() && !was_there {
         let _ = remove_file(rt, name);
     }
-    let name = if result.has_written_to_standard_output() {
+    let name = if result.has_chosen_standard_output() {
         None
     } else {
         Some(name)
@@ -236,7 +252,7 @@ fn run_subcommand_to_chosen_output<
     if let Some(name) = output_file_name_from_arguments(context.matches) {
         return run_subcommand_to_file_unless_refused(rt, context, input, systems, name);
     }
-    let (status, failure) = run_subcommand_with_output_to_writer(
+    let (status, failure) = run_subcommand_with_writer_and_messages(
         rt,
         context,
         input,
@@ -248,7 +264,7 @@ fn run_subcommand_to_chosen_output<
 
 /// Runs the subcommand, while a thread looks for clients that do not answer. Then standard error has the notes of the
 /// clients, unless the arguments forbid it. `has_appeared` says whether the file is there that ends a campaign.
-pub fn run_subcommand_while_watching<
+pub fn run_subcommand_while_watching_clients<
     R: Runtime + AllocGlobal + Threads + Wait + Sync + Copy + Drop + Send + 'static,
 >(
     rt: R,
@@ -262,16 +278,21 @@ pub fn run_subcommand_while_watching<
     let ending = stop_file::early_stop_from_arguments(matches, has_appeared);
     let context = SubcommandContext {
         matches,
-        files: prepared.files(),
+        files: prepared.source_files_as_read(),
         misfits: prepared.misfits.as_deref(),
         ending: &ending,
         terminals,
         line_width: line_width_of_environment_or_default(&rt),
     };
     let watch = client_watch::start_client_watch_unless_quiet(rt, alloc, matches, &prepared.notes);
-    let status = run_subcommand_to_chosen_output(&rt, context, prepared.input(), systems);
+    let status = run_subcommand_to_chosen_output(
+        &rt,
+        context,
+        prepared.input_with_items_as_trees(),
+        systems,
+    );
     if let Some(watch) = watch {
-        watch.end(&rt);
+        watch.end_thread_and_wait(&rt);
     }
     clients::print_client_notes_unless_quiet(&rt, matches, &prepared.notes);
     status

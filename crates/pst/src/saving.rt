@@ -2,7 +2,7 @@
 
 use crate::input::STANDARD_INPUT;
 use crate::outputs::print_file_error_to_stderr;
-use crate::quoting::push_shell_word;
+use crate::quoting::push_shell_argument_quoted_if_needed;
 use clap::ArgMatches;
 use pst_cli::Status;
 use pst_clients::ClientFolder;
@@ -30,7 +30,7 @@ fn fnv1a_hash(bytes: &[u8]) -> u64 {
 }
 
 /// The arguments that name clients: what the launcher wrote into their folder, or else a word in place of their command.
-fn client_arguments_or_placeholder<R: Files + AllocGlobal>(
+fn read_client_options_or_placeholder<R: Files + AllocGlobal>(
     rt: &R,
     folder: ClientFolder<'_>,
 ) -> Result<String, AllocError> {
@@ -44,13 +44,13 @@ fn client_arguments_or_placeholder<R: Files + AllocGlobal>(
 }
 
 /// Adds the system `name` to a command, or the arguments of the clients that it names.
-fn add_system_name_or_client_arguments<R: Files + AllocGlobal>(
+fn add_system_name_or_client_options<R: Files + AllocGlobal>(
     command: &mut String,
     rt: &R,
     name: &str,
 ) -> Result<(), AllocError> {
-    match ClientFolder::from_word(name) {
-        Some(folder) => command.push_str(client_arguments_or_placeholder(rt, folder)?.as_str()),
+    match ClientFolder::from_argument(name) {
+        Some(folder) => command.push_str(read_client_options_or_placeholder(rt, folder)?.as_str()),
         None => command.push_str(name),
     }
 }
@@ -58,10 +58,12 @@ fn add_system_name_or_client_arguments<R: Files + AllocGlobal>(
 /// Adds the model's file to a command, or `MODEL` for a model that is not in one named file.
 fn add_model_file_or_placeholder(
     command: &mut String,
-    words: &ArgMatches<'_>,
+    arguments: &ArgMatches<'_>,
 ) -> Result<(), AllocError> {
-    match words.get_strs("FILE") {
-        Some(&[model]) if model != STANDARD_INPUT => push_shell_word(command, model),
+    match arguments.get_strs("FILE") {
+        Some(&[model]) if model != STANDARD_INPUT => push_shell_argument_quoted_if_needed(
+            command, model,
+        ),
         _ => command.push_str("MODEL"),
     }
 }
@@ -71,14 +73,14 @@ fn add_model_file_or_placeholder(
 /// in one named file.
 fn command_start_to_drive_failure_again<R: Files + AllocGlobal>(
     rt: &R,
-    words: &ArgMatches<'_>,
+    arguments: &ArgMatches<'_>,
     name: &str,
 ) -> Result<String, AllocError> {
     let alloc = rt.alloc();
     let mut command = String::from_str(alloc, "pst run ")?;
-    add_system_name_or_client_arguments(&mut command, rt, name)?;
+    add_system_name_or_client_options(&mut command, rt, name)?;
     command.push_str(" --repeats 20 ")?;
-    add_model_file_or_placeholder(&mut command, words)?;
+    add_model_file_or_placeholder(&mut command, arguments)?;
     Ok(command)
 }
 
@@ -94,7 +96,7 @@ fn failure_file_text(
     let mut text = format!(in alloc; "; Seed {seed}, trial {number}: {verdict}\n")?;
     let mut command = saving.command.clone()?;
     command.push_str(" ")?;
-    push_shell_word(&mut command, file)?;
+    push_shell_argument_quoted_if_needed(&mut command, file)?;
     if !command.as_str().contains('\n') {
         let line = format!(in alloc; "; {command}\n")?;
         text.push_str(line.as_str())?;
@@ -110,10 +112,10 @@ pub fn refuse_file_as_save_folder<R: Files + Eprint>(
     rt: &R,
     matches: &ArgMatches<'_>,
 ) -> Result<(), Status> {
-    let Some(("campaign", words)) = matches.subcommand() else {
+    let Some(("campaign", arguments)) = matches.subcommand() else {
         return Ok(());
     };
-    let Some(folder) = words.get_str("save") else {
+    let Some(folder) = arguments.get_str("save") else {
         return Ok(());
     };
     if folder == STANDARD_INPUT {
@@ -133,26 +135,24 @@ pub fn refuse_file_as_save_folder<R: Files + Eprint>(
 
 impl<'a> FailureSaver<'a> {
     /// Makes the folder `folder`, unless it is there, for the failures of a campaign on the systems `name`. If it cannot be
-    /// made, standard error says why.
+    /// made, standard error says why, and the status is `Lost`.
     pub fn begin_by_making_folder<R: Files + Eprint + AllocGlobal>(
         rt: &R,
-        words: &ArgMatches<'_>,
+        arguments: &ArgMatches<'_>,
         folder: &'a str,
         seed: u64,
         name: &str,
-    ) -> Result<FailureSaver<'a>, Status> {
+    ) -> Result<Result<FailureSaver<'a>, Status>, AllocError> {
         if let Err(error) = std::fs::create_dir_all(rt, folder) {
             print_file_error_to_stderr(rt, rt.alloc(), "make", folder, &error);
-            return Err(Status::Lost);
+            return Ok(Err(Status::Lost));
         }
-        match command_start_to_drive_failure_again(rt, words, name) {
-            Ok(command) => Ok(FailureSaver {
-                folder,
-                seed,
-                command,
-            }),
-            Err(AllocError) => Err(Status::Lost),
-        }
+        let command = command_start_to_drive_failure_again(rt, arguments, name)?;
+        Ok(Ok(FailureSaver {
+            folder,
+            seed,
+            command,
+        }))
     }
 
     /// Writes the file of a failure.
@@ -167,7 +167,7 @@ impl<'a> FailureSaver<'a> {
 
     /// Saves failures, and says on standard error how many there are, unless it is to be quiet. The status is `Lost` if one
     /// cannot be written, and else `Accepted`.
-    pub fn save<R: Files + Eprint + AllocGlobal>(
+    pub fn save_failures_and_print_count<R: Files + Eprint + AllocGlobal>(
         &self,
         rt: &R,
         failures: &[NumberedFailure],

@@ -25,7 +25,7 @@ pub struct StopFileState {
 /// Looks for the file until it is there or the campaign is over.
 pub fn watch_for_stop_file<R: Wait + Files>(rt: &R, watched: &StopFileState) {
     for _ in rt.forever() {
-        if input::can_be_opened(rt, watched.name.as_str()) {
+        if input::can_file_be_opened(rt, watched.name.as_str()) {
             watched.has_appeared.store(true, Ordering::SeqCst);
             return;
         }
@@ -48,13 +48,13 @@ pub struct StopFileWatch {
 /// The name of the file that ends a campaign, if the arguments give one.
 pub fn stop_file_name_from_arguments<'a>(matches: &ArgMatches<'a>) -> Option<&'a str> {
     match matches.subcommand() {
-        Some(("campaign", words)) => words.get_str("stop-file"),
+        Some(("campaign", arguments)) => arguments.get_str("stop-file"),
         _ => None,
     }
 }
 
 /// A shared flag: whether the file that ends a campaign exists. `None` if the arguments name no file.
-pub fn shared_stop_file_flag<R: Files>(
+pub fn shared_flag_whether_stop_file_exists<R: Files>(
     rt: &R,
     alloc: Global,
     matches: &ArgMatches<'_>,
@@ -62,7 +62,7 @@ pub fn shared_stop_file_flag<R: Files>(
     let Some(name) = stop_file_name_from_arguments(matches) else {
         return Ok(None);
     };
-    let is_there = input::can_be_opened(rt, name);
+    let is_there = input::can_file_be_opened(rt, name);
     Ok(Some(Arc::new(alloc, AtomicBool::new(is_there))?))
 }
 
@@ -91,7 +91,7 @@ impl StopFileWatch {
     }
 
     /// Ends the thread, and waits for it.
-    pub fn end<R: Threads + Wait>(self, rt: &R) {
+    pub fn end_thread_and_wait<R: Threads + Wait>(self, rt: &R) {
         let StopFileWatch { watched, thread } = self;
         watched.is_over.store(true, Ordering::SeqCst);
         watched.parker.unpark();
@@ -105,7 +105,7 @@ pub fn early_stop_from_arguments(
     has_appeared: Option<Arc<AtomicBool>>,
 ) -> EarlyStop {
     let most = match matches.subcommand() {
-        Some(("campaign", words)) => words.get_one("max-failures"),
+        Some(("campaign", arguments)) => arguments.get_one("max-failures"),
         _ => None,
     };
     EarlyStop::new(most, has_appeared)

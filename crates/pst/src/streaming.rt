@@ -16,7 +16,7 @@ use std::thread::Threads;
 /// Returns whether the arguments select a stream of items.
 pub fn is_item_stream_selected(matches: &ArgMatches<'_>) -> bool {
     match matches.subcommand() {
-        Some((word, words)) => word == "judge" && words.get_flag("stream"),
+        Some((subcommand, arguments)) => subcommand == "judge" && arguments.get_flag("stream"),
         None => false,
     }
 }
@@ -31,7 +31,7 @@ pub fn is_model_file_alone(names: &[&str]) -> bool {
 }
 
 /// Refuses the input. Unless `is_quiet`, it writes to standard error that standard input has the items of a stream.
-pub fn refuse_stream<W: Sink, R: Eprint>(
+pub fn refuse_stream_with_wrong_files<W: Sink, R: Eprint>(
     rt: &R,
     names: &[&str],
     is_quiet: bool,
@@ -63,10 +63,10 @@ fn print_warning_if_file_has_unjudged_items<R: Eprint>(rt: &R, alloc: Global, in
 }
 
 /// Returns how many refused lines get messages, by the arguments.
-fn max_messages_from_arguments(words: &ArgMatches<'_>) -> usize {
-    if words.get_flag("quiet") {
+fn max_refusal_messages_from_arguments(arguments: &ArgMatches<'_>) -> usize {
+    if arguments.get_flag("quiet") {
         0
-    } else if words.get_flag("all-messages") {
+    } else if arguments.get_flag("all-messages") {
         usize::MAX
     } else {
         MOST_LINES
@@ -86,12 +86,12 @@ fn print_count_of_refusals_without_message<R: Eprint>(rt: &R, refused: usize, mo
 /// a terminal and standard output is not, a line displays how many are judged.
 /// Unless the arguments forbid messages, standard error has a message on each of the first refused lines, says how many
 /// others are refused, and says if there are items after the model, which are not judged.
-pub fn judge_standard_input<
+pub fn judge_standard_input_with_messages<
     W: Sink,
     R: Threads + Wait + Sync + Input + Eprint + AllocGlobal + Copy + Drop + Send + 'static,
 >(
     rt: &R,
-    words: &ArgMatches<'_>,
+    arguments: &ArgMatches<'_>,
     terminals: Terminals,
     input: &[u8],
     counts: &mut ItemResultCounts,
@@ -100,7 +100,7 @@ pub fn judge_standard_input<
     requires { W.broken out.old ≡ false }
 {
     let alloc = rt.alloc();
-    let is_quiet = words.get_flag("quiet");
+    let is_quiet = arguments.get_flag("quiet");
     if !is_quiet {
         print_warning_if_file_has_unjudged_items(rt, alloc, input);
     }
@@ -109,8 +109,8 @@ pub fn judge_standard_input<
         return refuse_text(Absence::NoMemory, out);
     };
     let steps = telling.steps();
-    let most = max_messages_from_arguments(words);
-    let name = words.get_str("FILE").unwrap_or(STANDARD_INPUT);
+    let most = max_refusal_messages_from_arguments(arguments);
+    let name = arguments.get_str("FILE").unwrap_or(STANDARD_INPUT);
     let mut messages = RefusedLineMessages::new(rt, name, input, most, has_progress_line);
     let mut reader = rt.reader();
     let status = judge_stream(
@@ -123,7 +123,7 @@ pub fn judge_standard_input<
         &mut messages,
         out,
     );
-    telling.end(rt);
+    telling.end_thread_and_wait(rt);
     print_count_of_refusals_without_message(rt, counts.refused, most);
     status
 }

@@ -20,7 +20,7 @@ fn counts_with_result_words(counts: &ItemResultCounts) -> [(usize, &'static str)
 }
 
 /// Adds a number to a text, with a comma between thousands, as `16,002`.
-pub fn add_grouped_number(
+pub fn add_number_with_thousands_commas(
     text: &mut String,
     alloc: Global,
     number: usize,
@@ -47,18 +47,18 @@ fn total_of_item_counts(counts: &ItemResultCounts) -> usize {
 }
 
 /// Adds the number of items with each result that there is, as `: 2 explained, 1 unexplained`.
-fn add_counts_with_result_words(
+fn add_nonzero_counts_with_result_words(
     line: &mut String,
     alloc: Global,
     counts: &ItemResultCounts,
 ) -> Result<(), AllocError> {
     let mut before = ": ";
-    for (count, word) in &counts_with_result_words(counts) {
+    for (count, subcommand) in &counts_with_result_words(counts) {
         if *count > 0 {
             line.push_str(before)?;
-            add_grouped_number(line, alloc, *count)?;
+            add_number_with_thousands_commas(line, alloc, *count)?;
             line.push_str(" ")?;
-            line.push_str(word)?;
+            line.push_str(subcommand)?;
             before = ", ";
         }
     }
@@ -76,9 +76,9 @@ fn summary_line_for_two_or_more_items(
         return Ok(None);
     }
     let mut line = String::from_str(alloc, "pst: ")?;
-    add_grouped_number(&mut line, alloc, total)?;
+    add_number_with_thousands_commas(&mut line, alloc, total)?;
     line.push_str(" items")?;
-    add_counts_with_result_words(&mut line, alloc, counts)?;
+    add_nonzero_counts_with_result_words(&mut line, alloc, counts)?;
     Ok(Some(line))
 }
 
@@ -91,27 +91,27 @@ pub fn print_summary_if_several_items<R: Eprint + AllocGlobal>(rt: &R, counts: &
 }
 
 /// Returns whether the command takes items from its files.
-fn is_subcommand_with_items(word: &str, words: &ArgMatches<'_>) -> bool {
-    match word {
-        "judge" => !words.get_flag("stream"),
+fn is_subcommand_noting_missing_items(subcommand: &str, arguments: &ArgMatches<'_>) -> bool {
+    match subcommand {
+        "judge" => !arguments.get_flag("stream"),
         "explain" | "run" => true,
         _ => false,
     }
 }
 
-/// Writes to standard error that the command `word` had no items, if its input has none after the model.
+/// Writes to standard error that the command `subcommand` had no items, if its input has none after the model.
 /// `status` is the status of the command.
 pub fn print_note_if_input_has_no_items<R: Eprint + AllocGlobal>(
     rt: &R,
-    word: &str,
-    words: &ArgMatches<'_>,
+    subcommand: &str,
+    arguments: &ArgMatches<'_>,
     input: &[u8],
     status: Status,
     counts: &ItemResultCounts,
 ) {
     if status != Status::Accepted
         || total_of_item_counts(counts) > 0
-        || !is_subcommand_with_items(word, words)
+        || !is_subcommand_noting_missing_items(subcommand, arguments)
     {
         return;
     }

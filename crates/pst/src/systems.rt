@@ -42,33 +42,37 @@ pub fn system_in_box<S: Drop>(alloc: Global, system: S) -> Result<Box<S>, AllocE
 }
 
 /// Returns the systems with the name `name`, if there are some.
-fn systems_of_name(name: &str) -> Option<ChosenSystems<'_>> {
-    if let Some(folder) = ClientFolder::from_word(name) {
+fn systems_chosen_by_argument(name: &str) -> Option<ChosenSystems<'_>> {
+    if let Some(folder) = ClientFolder::from_argument(name) {
         return Some(ChosenSystems::Clients(folder));
     }
     Some(ChosenSystems::Known(KnownSystem::named(name)?))
 }
 
 /// Returns the systems that the arguments name, and how many of them are needed.
-pub fn systems_from_arguments<'a>(matches: &ArgMatches<'a>) -> Option<(ChosenSystems<'a>, u64)> {
-    let (word, words) = matches.subcommand()?;
-    let wanted = systems_of_name(words.get_str("SYSTEM")?)?;
-    match word {
-        "campaign" => Some((wanted, words.get_one("workers")?)),
+pub fn systems_and_count_from_arguments<'a>(
+    matches: &ArgMatches<'a>,
+) -> Option<(ChosenSystems<'a>, u64)> {
+    let (subcommand, arguments) = matches.subcommand()?;
+    let wanted = systems_chosen_by_argument(arguments.get_str("SYSTEM")?)?;
+    match subcommand {
+        "campaign" => Some((wanted, arguments.get_one("workers")?)),
         _ => Some((wanted, 1)),
     }
 }
 
 /// Returns the name of a system in the arguments of a subcommand, or an empty one.
-pub fn system_name_from_arguments<'a>(words: &ArgMatches<'a>) -> &'a str {
-    words.get_str("SYSTEM").unwrap_or("")
+pub fn system_name_from_arguments_or_empty<'a>(arguments: &ArgMatches<'a>) -> &'a str {
+    arguments.get_str("SYSTEM").unwrap_or("")
 }
 
 /// Returns the command and the name of a system in the arguments, if no system has this name.
-pub fn unknown_system_in_arguments<'a>(matches: &'a ArgMatches<'_>) -> Option<(&'a str, &'a str)> {
-    let (command, words) = matches.subcommand()?;
-    let name = words.get_str("SYSTEM")?;
-    if systems_of_name(name).is_some() {
+pub fn subcommand_and_unknown_system_name<'a>(
+    matches: &'a ArgMatches<'_>,
+) -> Option<(&'a str, &'a str)> {
+    let (command, arguments) = matches.subcommand()?;
+    let name = arguments.get_str("SYSTEM")?;
+    if systems_chosen_by_argument(name).is_some() {
         None
     } else {
         Some((command, name))
@@ -76,15 +80,15 @@ pub fn unknown_system_in_arguments<'a>(matches: &'a ArgMatches<'_>) -> Option<(&
 }
 
 /// Returns whether a name that no system has looks like a command.
-fn has_shell_command_characters(name: &str) -> bool {
+fn looks_like_command_or_path(name: &str) -> bool {
     name.contains(' ') || name.contains('/') || name.contains('.')
 }
 
 /// Returns a hint with the system's name that is nearest to `name`, if one is near.
 fn nearest_system_name_hint(alloc: Global, name: &str) -> Result<Option<String>, AllocError> {
-    let mut near = NearestNameSoFar::to(name);
+    let mut near = NearestNameSoFar::without_candidates(name);
     for known in SYSTEMS {
-        near = near.or(alloc, known, name)?;
+        near = near.or_nearer_candidate(alloc, known, name)?;
     }
     match near.hint() {
         Some(hint) => Ok(Some(format!(in alloc; "{hint}")?)),
@@ -99,13 +103,13 @@ fn unknown_system_hint<R: Files + AllocGlobal>(
     name: &str,
 ) -> Result<Option<String>, AllocError> {
     let alloc = rt.alloc();
-    if input::can_be_opened(rt, name) {
+    if input::can_file_be_opened(rt, name) {
         let hint = format!(in alloc;
             "hint: `{name}` is a file: write a client or a system before it, as in `--client ./client.py {name}` or `counter {name}`"
         )?;
         return Ok(Some(hint));
     }
-    if has_shell_command_characters(name) {
+    if looks_like_command_or_path(name) {
         let hint = format!(in alloc;
             "hint: a command that runs a client follows `--client`: `--client '{name}'`"
         )?;
@@ -115,9 +119,9 @@ fn unknown_system_hint<R: Files + AllocGlobal>(
 }
 
 /// Returns the first of `names` that is no file but the name of a system.
-fn first_system_name_among_files<'a, R: Files>(rt: &R, names: &[&'a str]) -> Option<&'a str> {
+fn first_system_name_that_is_no_file<'a, R: Files>(rt: &R, names: &[&'a str]) -> Option<&'a str> {
     for name in names {
-        if KnownSystem::named(name).is_some() && !input::can_be_opened(rt, name) {
+        if KnownSystem::named(name).is_some() && !input::can_file_be_opened(rt, name) {
             return Some(*name);
         }
     }
@@ -132,7 +136,7 @@ fn print_hint_if_system_is_misplaced<R: Files + Eprint>(
     name: &str,
     files: &[&str],
 ) {
-    if let Some(system) = first_system_name_among_files(rt, files) {
+    if let Some(system) = first_system_name_that_is_no_file(rt, files) {
         let _ = eprintln!(rt;
             "  hint: `{system}` is no file; a system's name comes first: pst {command} {system} {name}"
         );
@@ -152,7 +156,7 @@ pub fn refuse_unopened_file_or_unknown_system<W: Sink, R: Files + Eprint + Alloc
 ) -> Status
     requires { W.broken out.old ≡ false }
 {
-    if let Err(why) = input::open_files_without_reading(rt, files, is_quiet) {
+    if let Err(why) = input::check_that_files_can_be_opened(rt, files, is_quiet) {
         if !is_quiet {
             print_hint_if_system_is_misplaced(rt, command, name, files);
         }

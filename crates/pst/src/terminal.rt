@@ -56,8 +56,12 @@ fn is_environment_variable_nonempty<R: Env + AllocGlobal>(rt: &R, name: &str) ->
 }
 
 /// Whether text is to have colors: as the arguments say, or else on a terminal, unless the environment has `NO_COLOR`.
-pub fn has_colors<R: Env + AllocGlobal>(rt: &R, words: &ArgMatches<'_>, is_terminal: bool) -> bool {
-    match words.get_str("color") {
+pub fn should_output_have_colors<R: Env + AllocGlobal>(
+    rt: &R,
+    arguments: &ArgMatches<'_>,
+    is_terminal: bool,
+) -> bool {
+    match arguments.get_str("color") {
         Some("always") => true,
         Some("never") => false,
         _ => is_terminal && !is_environment_variable_nonempty(rt, "NO_COLOR"),
@@ -74,7 +78,7 @@ fn line_width_of_environment<R: Env + AllocGlobal>(rt: &R) -> Option<u64> {
 }
 
 /// The width of lines: `width` if it is given, or else 80; at least 20 and at most 1,000.
-fn line_width_or_default(width: Option<u64>) -> usize {
+fn clamped_line_width_or_default(width: Option<u64>) -> usize {
     match width {
         Some(width) => width.clamp(LEAST_WIDTH, MOST_WIDTH) as usize,
         None => WIDTH,
@@ -83,11 +87,14 @@ fn line_width_or_default(width: Option<u64>) -> usize {
 
 /// The width of lines: that of `COLUMNS`, or 80.
 pub fn line_width_of_environment_or_default<R: Env + AllocGlobal>(rt: &R) -> usize {
-    line_width_or_default(line_width_of_environment(rt))
+    clamped_line_width_or_default(line_width_of_environment(rt))
 }
 
 /// The width of lines: as the arguments say, or else `COLUMNS`, or 80.
-pub fn line_width<R: Env + AllocGlobal>(rt: &R, words: &ArgMatches<'_>) -> usize {
-    let chosen: Option<u64> = words.get_one("width");
-    line_width_or_default(chosen.or(line_width_of_environment(rt)))
+pub fn line_width_from_arguments_or_environment<R: Env + AllocGlobal>(
+    rt: &R,
+    arguments: &ArgMatches<'_>,
+) -> usize {
+    let chosen: Option<u64> = arguments.get_one("width");
+    clamped_line_width_or_default(chosen.or(line_width_of_environment(rt)))
 }

@@ -6,7 +6,7 @@ use std::alloc::Global;
 
 /// Writes the warnings on an input to standard error. If an allocation fails or they cannot be written, the line and
 /// the status remain without them.
-pub fn print_warnings_to_stderr<R: Eprint>(
+pub fn print_input_warnings_to_stderr<R: Eprint>(
     rt: &R,
     alloc: Global,
     files: &[SourceFile<'_>],

@@ -17,10 +17,10 @@ impl<'a, J: Watch, K: Watch> Watch for BothWatchers<'a, J, K> {
         self.second.trial_ended(ended);
     }
 
-    fn shrinking(&self) -> Option<&ShrinkProgress> {
-        match self.first.shrinking() {
+    fn shrink_progress(&self) -> Option<&ShrinkProgress> {
+        match self.first.shrink_progress() {
             Some(shrinking) => Some(shrinking),
-            None => self.second.shrinking(),
+            None => self.second.shrink_progress(),
         }
     }
 
@@ -33,7 +33,7 @@ impl<'a, J: Watch, K: Watch> Watch for BothWatchers<'a, J, K> {
 impl<'a, J: Watch, K: StopCondition> StopCondition for BothWatchers<'a, J, K> {
     ghost may_end = { λ b. K.may_end b.second.now };
 
-    fn is_over(&self) -> bool {
-        self.second.is_over()
+    fn is_campaign_over(&self) -> bool {
+        self.second.is_campaign_over()
     }
 }

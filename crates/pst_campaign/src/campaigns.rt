@@ -6,13 +6,13 @@ ghost use Rattle.pst_campaign.specs.Working.{AllGiven, AllGivenUnless, HasWorker
 
 use crate::ending::{NeverStops, StopCondition};
 use crate::fault::CampaignFault;
-use crate::plans::Watched;
+use crate::plans::WatchedPlan;
 use crate::runner::Worker;
-use crate::threads::run_workers_on_threads;
+use crate::threads::run_workers_on_threads_or_here;
 use crate::watch::Watch;
 use pst_ledger::{Closed, Ledger};
 use pst_system::{BoxedSystem, System};
-use pst_trial::{Plan, Record, may_share_records};
+use pst_trial::{Plan, Record, prove_records_are_send_and_sync};
 use std::alloc::Global;
 use std::sync::{Arc, Wait};
 use std::thread::Threads;
@@ -46,9 +46,9 @@ pub(crate) fn run_campaign_with_workers<
     if workers > MAX_SYSTEMS {
         return Err(CampaignFault::TooMany);
     }
-    may_share_records();
+    prove_records_are_send_and_sync();
     let (ledger, seats) = Ledger::open(alloc, trials, workers as u64)?;
-    let worked = run_workers_on_threads(rt, alloc, plan, &ledger, seats, systems);
+    let worked = run_workers_on_threads_or_here(rt, alloc, plan, &ledger, seats, systems);
     match ledger.close(worked) {
         Ok(closed) => Ok(closed),
         Err(_) => unreachable!(),
@@ -98,8 +98,8 @@ pub fn campaign_until<K: StopCondition + Sync, H: Threads + Wait + Sync>(
     ensures fault { IfErr result (IsCampaignFault (length systems.items)) }
 {
     let trials = plan.settings().trials as u64;
-    may_share_records();
-    let watched = Watched {
+    prove_records_are_send_and_sync();
+    let watched = WatchedPlan {
         plan: &plan,
         watch: ending,
     };

@@ -9,23 +9,25 @@ ghost use Rattle.pst_system.specs.Kept.{AreKept};
 ghost use Rattle.std.specs.Coded.{codes};
 
 use crate::ending::StopCondition;
-use crate::plans::{Watched, loss_cause_of_trial_fault};
+use crate::plans::{WatchedPlan, loss_cause_of_trial_fault};
 use crate::runner::TrialRunner;
-use crate::working::work_with_own_seat_and_system;
+use crate::working::run_trials_at_own_seat;
 use pst_driver::{Crew, Relations, Subject, SystemWithRelations, start_crew};
 use pst_ledger::{Cause, Ledger, Seat};
 use pst_system::{BoxedSystem, System};
-use pst_trial::{Plan, Record, ShrinkProgress, may_share_records, run_trial_with_crew};
+use pst_trial::{
+    Plan, Record, ShrinkProgress, prove_records_are_send_and_sync, run_trial_with_crew,
+};
 use std::alloc::Global;
 use std::marker::Brand;
 use std::sync::{Arc, Wait};
 use std::thread;
 use std::thread::{Scope, Threads};
 
-/// Runs trial `number` with the threads of a crew, with its fault as a cause. `shrinking` counts the candidates
+/// Runs trial `number` with the threads of a crew, with its fault as a cause. `shrink_progress` counts the candidates
 /// that it drives.
 #[tactic(auto, using(crate::specs::Moving::gives_loss))]
-fn run_trial<J: Relations, S: Subject, H: Wait>(
+fn run_campaign_trial_with_crew<J: Relations, S: Subject, H: Wait>(
     rt: &H,
     alloc: Global,
     plan: &Arc<Plan>,
@@ -48,7 +50,7 @@ fn run_trial<J: Relations, S: Subject, H: Wait>(
 
 /// A plan whose trials are watched, and are run with the threads of a crew.
 #[derive(Drop)]
-struct CrewRunner<'p, 'w, 'c, K, J: Relations, S: Subject> {
+struct WatchedCrewRunner<'p, 'w, 'c, K, J: Relations, S: Subject> {
     plan: &'p Arc<Plan>,
     watch: &'w K,
     crew: &'c Crew<J, S>,
@@ -56,7 +58,7 @@ struct CrewRunner<'p, 'w, 'c, K, J: Relations, S: Subject> {
 }
 
 impl<'p, 'w, 'c, K: StopCondition, J: Relations, S: Subject> TrialRunner<Record, ()>
-    for CrewRunner<'p, 'w, 'c, K, J, S> {
+    for WatchedCrewRunner<'p, 'w, 'c, K, J, S> {
     ghost use Rattle.std.specs.Arc.{arc_value};
     ghost use Rattle.pst_campaign.specs.Entries.{MayGive};
 
@@ -76,17 +78,19 @@ impl<'p, 'w, 'c, K: StopCondition, J: Relations, S: Subject> TrialRunner<Record,
         _system: &mut (),
     ) -> Result<Record, Cause> {
         let own = ShrinkProgress::new();
-        let shrinking = self.watch.shrinking().unwrap_or(&own);
-        let ended = run_trial(rt, alloc, self.plan, number, self.crew, shrinking);
-        shrinking.end_trial(number);
+        let shrinking = self.watch.shrink_progress().unwrap_or(&own);
+        let ended = run_campaign_trial_with_crew(
+            rt, alloc, self.plan, number, self.crew, shrinking,
+        );
+        shrinking.clear_progress_if_of_trial(number);
         self.watch.trial_ended(&ended);
         ended
     }
 
-    fn is_over(&self) -> bool
+    fn is_campaign_over(&self) -> bool
         ensures { IsTrue result → K.may_end self.now.watch.now }
     {
-        self.watch.is_over()
+        self.watch.is_campaign_over()
     }
 
     ghost keeps_refl = { λ s. tt };
@@ -98,7 +102,7 @@ impl<'p, 'w, 'c, K: StopCondition, J: Relations, S: Subject> TrialRunner<Record,
 
 /// Works at a fresh seat with the threads of a crew until no number is left or the plan is over, and returns the
 /// seat.
-fn work_with_crew_threads<K: StopCondition, J: Relations, S: Subject, H: Threads + Wait>(
+fn run_trials_with_crew_threads<K: StopCondition, J: Relations, S: Subject, H: Threads + Wait>(
     rt: &H,
     alloc: Global,
     plan: &Arc<Plan>,
@@ -113,11 +117,11 @@ fn work_with_crew_threads<K: StopCondition, J: Relations, S: Subject, H: Threads
     ensures { IsWorked (K.may_end watch.now)
         (MayGive J.answering J.failing J.resetting (arc_value plan.now)) ledger.now.table result }
 {
-    may_share_records();
-    work_with_own_seat_and_system(
+    prove_records_are_send_and_sync();
+    run_trials_at_own_seat(
         rt,
         alloc,
-        &CrewRunner { plan, watch, crew },
+        &WatchedCrewRunner { plan, watch, crew },
         ledger,
         seat,
         (),
@@ -126,7 +130,7 @@ fn work_with_crew_threads<K: StopCondition, J: Relations, S: Subject, H: Threads
 
 /// Starts the threads of a crew in a scope, and works at a fresh seat with them until no number is left or the
 /// plan is over. If they do not all start, it does no work and returns the seat as it is, as an `Err`.
-fn start_crew_and_work<
+fn start_crew_and_run_trials<
     's,
     E,
     K: StopCondition,
@@ -154,11 +158,11 @@ fn start_crew_and_work<
     if !start_crew(rt, alloc, scope, plan.typed(), crew, branches) {
         return Err(seat);
     }
-    Ok(work_with_crew_threads(rt, alloc, plan, watch, ledger, seat, crew))
+    Ok(run_trials_with_crew_threads(rt, alloc, plan, watch, ledger, seat, crew))
 }
 
-/// Does what `start_crew_and_work` does in a scope of its own, and sends the threads home.
-fn start_crew_work_and_dismiss<
+/// Does what `start_crew_and_run_trials` does in a scope of its own, and sends the threads home.
+fn start_crew_run_trials_and_dismiss<
     K: StopCondition,
     J: Relations + Send + Sync,
     S: Subject + Send + Sync,
@@ -191,7 +195,9 @@ fn start_crew_work_and_dismiss<
                 ledger.entry.now.table)
                 × IfErr result (IsFresh ledger.entry.now.table) }
         {
-            let ended = start_crew_and_work(rt, alloc, scope, plan, watch, ledger, seat, crew);
+            let ended = start_crew_and_run_trials(
+                rt, alloc, scope, plan, watch, ledger, seat, crew,
+            );
             crew.dismiss();
             ended
         },
@@ -201,7 +207,7 @@ fn start_crew_work_and_dismiss<
 /// Works at a fresh seat with a crew on the system, whose relations are those that `J` names. If the threads of the
 /// crew do not all start, it does no work and returns the seat and the system, as an `Err`. Each clause is a fact on
 /// one of the things that it is given or gives back.
-fn work_with_new_crew<
+fn run_trials_with_new_crew<
     K: StopCondition,
     J: Relations + Send + Sync,
     S: Subject + Send + Sync + Drop,
@@ -227,7 +233,7 @@ fn work_with_new_crew<
         (S.may_fail back.1) J.failing (S.may_refuse_reset back.1) J.resetting) }
 {
     let crew: Crew<J, S> = Crew::new(SystemWithRelations::new(system));
-    match start_crew_work_and_dismiss(rt, alloc, plan, watch, ledger, seat, &crew) {
+    match start_crew_run_trials_and_dismiss(rt, alloc, plan, watch, ledger, seat, &crew) {
         Ok(seat) => Ok(seat),
         Err(seat) => Err((seat, crew.into_system())),
     }
@@ -235,7 +241,11 @@ fn work_with_new_crew<
 
 /// Works at a fresh seat with a crew on the system, whose relations get names for this call. If the threads of
 /// the crew do not all start, it does no work and returns the seat and the system, as an `Err`.
-fn work_on_system_with_crew<K: StopCondition, S: Subject + Send + Sync + Drop, H: Threads + Wait>(
+fn run_trials_on_system_with_crew<
+    K: StopCondition,
+    S: Subject + Send + Sync + Drop,
+    H: Threads + Wait,
+>(
     rt: &H,
     alloc: Global,
     plan: &Arc<Plan>,
@@ -254,13 +264,13 @@ fn work_on_system_with_crew<K: StopCondition, S: Subject + Send + Sync + Drop, H
         (S.may_fail back.1) (S.may_fail system)
         (S.may_refuse_reset back.1) (S.may_refuse_reset system)) }
 {
-    work_with_new_crew::<K, Brand, S, H>(rt, alloc, plan, watch, ledger, seat, system)
+    run_trials_with_new_crew::<K, Brand, S, H>(rt, alloc, plan, watch, ledger, seat, system)
 }
 
 /// Works at a fresh seat on the system in a box until no number is left or the plan is over, and returns the
 /// seat. It keeps a thread for each branch from drive to drive. If these cannot all be started, each drive
 /// starts its own.
-pub(crate) fn work_on_boxed_system<K: StopCondition, H: Threads + Wait>(
+pub(crate) fn run_trials_with_or_without_crew<K: StopCondition, H: Threads + Wait>(
     rt: &H,
     alloc: Global,
     plan: &Arc<Plan>,
@@ -275,11 +285,18 @@ pub(crate) fn work_on_boxed_system<K: StopCondition, H: Threads + Wait>(
         (MayGive (answers system) (fails system) (reset_fails system) (arc_value plan.now))
         ledger.now.table result }
 {
-    match work_on_system_with_crew(rt, alloc, plan, watch, ledger, seat, system) {
+    match run_trials_on_system_with_crew(rt, alloc, plan, watch, ledger, seat, system) {
         Ok(seat) => seat,
         Err((seat, system)) => {
-            may_share_records();
-            work_with_own_seat_and_system(rt, alloc, &Watched { plan, watch }, ledger, seat, system)
+            prove_records_are_send_and_sync();
+            run_trials_at_own_seat(
+                rt,
+                alloc,
+                &WatchedPlan { plan, watch },
+                ledger,
+                seat,
+                system,
+            )
         }
     }
 }

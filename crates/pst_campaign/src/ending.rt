@@ -15,7 +15,7 @@ pub trait StopCondition: Watch {
     ghost may_end: { Self → Type 0 };
 
     /// Whether the campaign is over. A worker draws no number once it is, and trials that have begun are run to their end.
-    fn is_over(&self) -> bool
+    fn is_campaign_over(&self) -> bool
         ensures { IsTrue result → may_end self.now };
 }
 
@@ -30,8 +30,8 @@ impl<'a, K: Watch> Watch for NeverStops<'a, K> {
         self.watch.trial_ended(ended);
     }
 
-    fn shrinking(&self) -> Option<&ShrinkProgress> {
-        self.watch.shrinking()
+    fn shrink_progress(&self) -> Option<&ShrinkProgress> {
+        self.watch.shrink_progress()
     }
 
     fn campaign_ended(&self) {
@@ -42,7 +42,7 @@ impl<'a, K: Watch> Watch for NeverStops<'a, K> {
 impl<'a, K: Watch> StopCondition for NeverStops<'a, K> {
     ghost may_end = { λ _. ⊥ };
 
-    fn is_over(&self) -> bool {
+    fn is_campaign_over(&self) -> bool {
         false
     }
 }
@@ -74,7 +74,7 @@ impl EarlyStop {
     }
 
     /// Whether enough trials did not pass for the campaign to be over.
-    fn has_enough_failed_trials(&self) -> bool
+    fn has_reached_limit_of_unpassed_trials(&self) -> bool
         ensures { IsTrue result → IsSome self.now.most }
     {
         match self.most {
@@ -119,7 +119,7 @@ impl StopCondition for EarlyStop {
 
     ghost may_end = { λ e. IsSome e.most ⊎ IsSome e.interrupted };
 
-    fn is_over(&self) -> bool {
-        self.has_enough_failed_trials() || self.is_interrupted()
+    fn is_campaign_over(&self) -> bool {
+        self.has_reached_limit_of_unpassed_trials() || self.is_interrupted()
     }
 }

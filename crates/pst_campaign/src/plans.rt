@@ -5,12 +5,12 @@ ghost use Rattle.pst_campaign.specs.Entries.{MayGive, cause_of};
 ghost use Rattle.pst_ledger.specs.declared.entry.Entry.TheVariants.{Done, Lost};
 ghost use Rattle.pst_system.specs.Kept.{AreKept};
 
-use crate::crews::work_on_boxed_system;
+use crate::crews::run_trials_with_or_without_crew;
 use crate::ending::StopCondition;
 use crate::runner::{TrialRunner, Worker};
 use pst_ledger::{Cause, Ledger, Seat};
 use pst_system::{BoxedSystem, System};
-use pst_trial::{Plan, Record, ShrinkProgress, TrialFault, trial_with_progress};
+use pst_trial::{Plan, Record, ShrinkProgress, TrialFault, run_trial_with_progress};
 use std::alloc::Global;
 use std::sync::{Arc, Wait};
 use std::thread::Threads;
@@ -26,9 +26,9 @@ pub(crate) fn loss_cause_of_trial_fault(fault: TrialFault) -> Cause
     }
 }
 
-/// Runs trial `number`, with its fault as a cause. `shrinking` counts the candidates that it drives.
+/// Runs trial `number`, with its fault as a cause. `shrink_progress` counts the candidates that it drives.
 #[tactic(auto, using(crate::specs::Moving::gives_loss))]
-fn run_trial<H: Threads + Wait>(
+fn run_campaign_trial<H: Threads + Wait>(
     rt: &H,
     alloc: Global,
     plan: &Arc<Plan>,
@@ -45,7 +45,7 @@ fn run_trial<H: Threads + Wait>(
     ensures kept { AreKept (answers system.new) (answers system.old) (fails system.new) (fails system.old)
         (reset_fails system.new) (reset_fails system.old) }
 {
-    match trial_with_progress(rt, alloc, plan, number, system, shrinking) {
+    match run_trial_with_progress(rt, alloc, plan, number, system, shrinking) {
         Ok(record) => Ok(record),
         Err(fault) => Err(loss_cause_of_trial_fault(fault)),
     }
@@ -53,12 +53,12 @@ fn run_trial<H: Threads + Wait>(
 
 /// A plan whose trials are watched.
 #[derive(Drop)]
-pub(crate) struct Watched<'a, K> {
+pub(crate) struct WatchedPlan<'a, K> {
     pub plan: &'a Arc<Plan>,
     pub watch: &'a K,
 }
 
-impl<'a, K: StopCondition> TrialRunner<Record, BoxedSystem> for Watched<'a, K> {
+impl<'a, K: StopCondition> TrialRunner<Record, BoxedSystem> for WatchedPlan<'a, K> {
     ghost use Rattle.std.specs.Arc.{arc_value};
     ghost use Rattle.pst_campaign.specs.Moving.{gives_before};
     ghost use Rattle.pst_campaign.specs.Entries.{MayGive};
@@ -84,17 +84,17 @@ impl<'a, K: StopCondition> TrialRunner<Record, BoxedSystem> for Watched<'a, K> {
         system: &mut BoxedSystem,
     ) -> Result<Record, Cause> {
         let own = ShrinkProgress::new();
-        let shrinking = self.watch.shrinking().unwrap_or(&own);
-        let ended = run_trial(rt, alloc, self.plan, number, system, shrinking);
-        shrinking.end_trial(number);
+        let shrinking = self.watch.shrink_progress().unwrap_or(&own);
+        let ended = run_campaign_trial(rt, alloc, self.plan, number, system, shrinking);
+        shrinking.clear_progress_if_of_trial(number);
         self.watch.trial_ended(&ended);
         ended
     }
 
-    fn is_over(&self) -> bool
+    fn is_campaign_over(&self) -> bool
         ensures { IsTrue result → K.may_end self.now.watch.now }
     {
-        self.watch.is_over()
+        self.watch.is_campaign_over()
     }
 
     ghost keeps_refl = { λ s. kept_same _ _ _ };
@@ -104,7 +104,7 @@ impl<'a, K: StopCondition> TrialRunner<Record, BoxedSystem> for Watched<'a, K> {
     ghost moves = { λ w s t kept k e. gives_before kept (arc_value w.plan.now) k e };
 }
 
-impl<'a, K: StopCondition> Worker<BoxedSystem> for Watched<'a, K> {
+impl<'a, K: StopCondition> Worker<BoxedSystem> for WatchedPlan<'a, K> {
     ghost use Rattle.std.specs.Arc.{arc_value};
     ghost use Rattle.pst_campaign.specs.Entries.{MayGive};
 
@@ -125,7 +125,7 @@ impl<'a, K: StopCondition> Worker<BoxedSystem> for Watched<'a, K> {
     ) -> Seat<Record> {
         match system.take() {
             Some(own) => {
-                work_on_boxed_system(rt, alloc, self.plan, self.watch, ledger, seat, own)
+                run_trials_with_or_without_crew(rt, alloc, self.plan, self.watch, ledger, seat, own)
             }
             None => seat,
         }

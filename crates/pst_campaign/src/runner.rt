@@ -42,7 +42,7 @@ pub(crate) trait TrialRunner<R: Numbered, S> {
         ensures keeps { keeps system.old system.new };
 
     /// Whether no further trial is to run.
-    fn is_over(&self) -> bool
+    fn is_campaign_over(&self) -> bool
         ensures { IsTrue result → may_end self.now };
 
     /// A system that does not change keeps everything.

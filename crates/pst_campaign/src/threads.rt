@@ -7,7 +7,7 @@ ghost use Rattle.pst_trial.specs.RecordView.{RecordView};
 
 use crate::runner::Worker;
 use pst_ledger::{Ledger, Seat};
-use pst_trial::{Record, may_share_records};
+use pst_trial::{Record, prove_records_are_send_and_sync};
 use std::alloc::Global;
 use std::snapshot::Snapshot;
 use std::sync::Wait;
@@ -30,7 +30,7 @@ impl<'a, S, P: Worker<S>> Promise<Seat<Record>> for WorkPromise<'a, S, P> {
 
 /// Starts the thread of each worker, from the last on, and joins it once the others have ended. A worker whose
 /// thread cannot be started works on this thread once the others have ended.
-fn start_and_join_worker_threads<
+fn run_workers_in_scope_or_here<
     's,
     E,
     S: Drop + Send + 's,
@@ -58,7 +58,7 @@ fn start_and_join_worker_threads<
     let Some(system) = systems.pop() else {
         unreachable!()
     };
-    may_share_records();
+    prove_records_are_send_and_sync();
     let promise = WorkPromise {
         plan,
         ledger,
@@ -73,7 +73,7 @@ fn start_and_join_worker_threads<
     };
     match scope.spawn_with(promise, run) {
         Ok(child) => {
-            let mut worked = start_and_join_worker_threads(
+            let mut worked = run_workers_in_scope_or_here(
                 rt, scope, alloc, plan, ledger, seats, systems,
             );
             let own = child.join(rt);
@@ -82,7 +82,7 @@ fn start_and_join_worker_threads<
         }
         Err(refused) => {
             let SpawnError { value: run } = refused;
-            let mut worked = start_and_join_worker_threads(
+            let mut worked = run_workers_in_scope_or_here(
                 rt, scope, alloc, plan, ledger, seats, systems,
             );
             let own = run();
@@ -94,7 +94,11 @@ fn start_and_join_worker_threads<
 
 /// Runs all workers at once, each in a thread of its own if one can be started. The seats come back in the
 /// order of the systems.
-pub(crate) fn run_workers_on_threads<S: Drop + Send, P: Worker<S> + Sync, H: Threads + Wait + Sync>(
+pub(crate) fn run_workers_on_threads_or_here<
+    S: Drop + Send,
+    P: Worker<S> + Sync,
+    H: Threads + Wait + Sync,
+>(
     rt: &H,
     alloc: Global,
     plan: &P,
@@ -118,6 +122,6 @@ pub(crate) fn run_workers_on_threads<S: Drop + Send, P: Worker<S> + Sync, H: Thr
             ensures { AllZip
                 (λ (s : S) (t : SeatView RecordView). IsWorked (P.may_end plan.entry.now) (P.may_give plan.entry.now s) ledger.entry.now.table t)
                 systems.items result.items }
-        { start_and_join_worker_threads(rt, scope, alloc, plan, ledger, seats, systems) },
+        { run_workers_in_scope_or_here(rt, scope, alloc, plan, ledger, seats, systems) },
     )
 }

@@ -8,7 +8,7 @@ pub trait Watch {
     fn trial_ended(&self, ended: &Result<Record, Cause>);
 
     /// Returns the counter of the candidates of the trial that is shrunk, if the watcher displays them.
-    fn shrinking(&self) -> Option<&ShrinkProgress> {
+    fn shrink_progress(&self) -> Option<&ShrinkProgress> {
         None
     }
 

@@ -7,26 +7,24 @@ ghost use Rattle.pst_campaign.specs.Working.{Adds};
 ghost use Rattle.pst_system.specs.Kept.{AreKept};
 
 use crate::ending::NeverStops;
-use crate::plans::Watched;
+use crate::plans::WatchedPlan;
 use crate::runner::TrialRunner;
 use crate::watch::Unwatched;
 use pst_ledger::{Ledger, Numbered, Seat};
 use pst_system::{BoxedSystem, System};
-use pst_trial::{Plan, Record, may_share_records};
+use pst_trial::{Plan, Record, prove_records_are_send_and_sync};
 use std::alloc::Global;
 use std::sync::{Arc, Wait};
 use std::thread::Threads;
 
 /// Claims numbers until none is left or the plan is over, runs the trial of each, and deposits its record or gives the
 /// number up. Each clause is a fact on one part of the seat, or on the system.
-pub(crate) fn run_trials_until_over<R: Numbered, S: Drop, P: TrialRunner<R, S>, H: Threads + Wait>(
-    rt: &H,
-    alloc: Global,
-    plan: &P,
-    ledger: &Ledger<R>,
-    seat: &mut Seat<R>,
-    system: &mut S,
-)
+pub(crate) fn run_trials_until_campaign_over<
+    R: Numbered,
+    S: Drop,
+    P: TrialRunner<R, S>,
+    H: Threads + Wait,
+>(rt: &H, alloc: Global, plan: &P, ledger: &Ledger<R>, seat: &mut Seat<R>, system: &mut S)
     requires own { seat.old.table ≡ ledger.now.table }
     requires idle { seat.old.held ≡ None }
     requires trials { ledger.now.table.slots ≡ P.trials plan.now }
@@ -37,7 +35,7 @@ pub(crate) fn run_trials_until_over<R: Numbered, S: Drop, P: TrialRunner<R, S>, 
     ensures keeps { P.keeps system.old system.new }
 {
     for _ in rt.forever() {
-        if plan.is_over() {
+        if plan.is_campaign_over() {
             return;
         }
         let Some(number) = ledger.claim(seat) else {
@@ -55,18 +53,20 @@ pub(crate) fn run_trials_until_over<R: Numbered, S: Drop, P: TrialRunner<R, S>, 
     unreachable!()
 }
 
-/// Does what `run_trials_until_over` does, with a fresh seat and a system of its own for a thread, and returns the seat.
-pub(crate) fn work_with_own_seat_and_system<
-    R: Numbered,
-    S: Drop,
-    P: TrialRunner<R, S>,
-    H: Threads + Wait,
->(rt: &H, alloc: Global, plan: &P, ledger: &Ledger<R>, mut seat: Seat<R>, mut system: S) -> Seat<R>
+/// Does what `run_trials_until_campaign_over` does, with a fresh seat and a system of its own for a thread, and returns the seat.
+pub(crate) fn run_trials_at_own_seat<R: Numbered, S: Drop, P: TrialRunner<R, S>, H: Threads + Wait>(
+    rt: &H,
+    alloc: Global,
+    plan: &P,
+    ledger: &Ledger<R>,
+    mut seat: Seat<R>,
+    mut system: S,
+) -> Seat<R>
     requires fresh { IsFresh ledger.now.table seat }
     requires trials { ledger.now.table.slots ≡ P.trials plan.now }
     ensures { IsWorked (P.may_end plan.now) (P.may_give plan.now system) ledger.now.table result }
 {
-    run_trials_until_over(rt, alloc, plan, ledger, &mut seat, &mut system);
+    run_trials_until_campaign_over(rt, alloc, plan, ledger, &mut seat, &mut system);
     seat
 }
 
@@ -93,10 +93,10 @@ pub fn run_trials_until_none_is_left<H: Threads + Wait + Sync>(
     ensures kept { AreKept (answers system.new) (answers system.old) (fails system.new) (fails system.old)
         (reset_fails system.new) (reset_fails system.old) }
 {
-    may_share_records();
-    let watched = Watched {
+    prove_records_are_send_and_sync();
+    let watched = WatchedPlan {
         plan,
         watch: &NeverStops { watch: &Unwatched },
     };
-    run_trials_until_over(rt, alloc, &watched, ledger, seat, system)
+    run_trials_until_campaign_over(rt, alloc, &watched, ledger, seat, system)
 }

@@ -18,7 +18,7 @@ pub const MAX_TOGETHER: usize = 16;
 pub const MAX_SUFFIX: usize = 8;
 
 /// Whether the branches have at most `room` commands together.
-fn are_within<C>(branches: &[Items<C>], room: usize) -> bool
+fn are_branches_together_within<C>(branches: &[Items<C>], room: usize) -> bool
     ensures { result ≡ nat_le (length (spec.joined branches.now)) room }
 {
     let Some((branch, branches)) = branches.split_first() else {
@@ -27,16 +27,16 @@ fn are_within<C>(branches: &[Items<C>], room: usize) -> bool
     if branch.len() > room {
         return false;
     }
-    are_within(branches, room - branch.len())
+    are_branches_together_within(branches, room - branch.len())
 }
 
-fn are_short<C>(branches: &[Items<C>]) -> bool
+fn is_each_branch_within_limit<C>(branches: &[Items<C>]) -> bool
     ensures { result ≡ list_all (λ b. nat_le (length b) 8) branches.now }
 {
     branches.iter().all(|branch| branch.len() <= MAX_BRANCH)
 }
 
-fn are_two_to_four<C>(branches: &[Items<C>]) -> bool
+fn is_branch_count_within_limits<C>(branches: &[Items<C>]) -> bool
     ensures { result ≡ (nat_le 2 (length branches.now) && nat_le (length branches.now) 4) }
 {
     2 <= branches.len() && branches.len() <= 4
@@ -44,31 +44,31 @@ fn are_two_to_four<C>(branches: &[Items<C>]) -> bool
 
 /// Whether a case of these commands is over a limit: `MAX_PREFIX`, `MAX_BRANCH`, `MAX_TOGETHER`, `MAX_SUFFIX`, or two
 /// to four branches.
-pub fn are_over_limit<C>(prefix: &[C], branches: &[Items<C>], suffix: &[C]) -> bool
+pub fn is_case_size_outside_limits<C>(prefix: &[C], branches: &[Items<C>], suffix: &[C]) -> bool
     ensures { result ≡ spec.are_over_limit prefix.now branches.now suffix.now }
 {
     if prefix.len() > MAX_PREFIX {
         return true;
     }
-    if !are_short(branches) {
+    if !is_each_branch_within_limit(branches) {
         return true;
     }
-    if !are_two_to_four(branches) {
+    if !is_branch_count_within_limits(branches) {
         return true;
     }
-    if !are_within(branches, MAX_TOGETHER) {
+    if !are_branches_together_within(branches, MAX_TOGETHER) {
         return true;
     }
     suffix.len() > MAX_SUFFIX
 }
 
 /// How many commands the branches have together.
-pub fn joined_len<C>(branches: &[Items<C>]) -> u32
+pub fn count_commands_of_branches<C>(branches: &[Items<C>]) -> u32
     requires { length (spec.joined branches.now) < 2 ^ 32 }
     ensures { result ≡ length (spec.joined branches.now) }
 {
     let Some((branch, branches)) = branches.split_first() else {
         return 0;
     };
-    branch.len() as u32 + joined_len(branches)
+    branch.len() as u32 + count_commands_of_branches(branches)
 }

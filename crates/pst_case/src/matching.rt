@@ -8,13 +8,13 @@ ghost use Rattle.pst_value.specs.declared.ty.Ty.TheVariants as ty;
 
 use crate::case::{Command, Shaped};
 use crate::history::{History, Reply};
-use crate::types::each_has_type;
+use crate::types::do_arguments_fit_parameters;
 use pst_model::{Source, Typed, operation_of};
 use pst_value::{Items, Value};
 
 /// Whether the value is a call of an operation of the model, with values of its parameters' types.
 #[tactic(auto, using(crate::proofs::Operations::calls))]
-fn is_call(model: &Source, value: &Value) -> bool
+fn is_well_typed_call(model: &Source, value: &Value) -> bool
     requires { WellModel model.now }
     ensures { result ≡ fits_in model.now [] [] value.now ty.Call }
 {
@@ -22,29 +22,33 @@ fn is_call(model: &Source, value: &Value) -> bool
         return false;
     };
     match operation_of(model.items.as_slice(), *op as usize) {
-        Some(operation) => each_has_type(args.as_slice(), operation.params.as_slice(), &[]),
+        Some(operation) => do_arguments_fit_parameters(
+            args.as_slice(),
+            operation.params.as_slice(),
+            &[],
+        ),
         None => false,
     }
 }
 
 /// Whether the value is of the type of the command's result.
 #[tactic(auto, using(crate::proofs::Operations::results))]
-fn is_result(model: &Source, command: &Command, value: &Value) -> bool
+fn has_result_type_of_command(model: &Source, command: &Command, value: &Value) -> bool
     requires { WellModel model.now }
     ensures { result ≡ fits_in model.now [] [] value.now (result_type model.now command.now) }
 {
     match operation_of(model.items.as_slice(), command.op as usize) {
         Some(operation) => value.has_type(&operation.result, &[], &[]),
-        None => is_call(model, value),
+        None => is_well_typed_call(model, value),
     }
 }
 
-fn reply_fits(model: &Source, command: &Command, reply: &Reply) -> bool
+fn is_recordable_reply(model: &Source, command: &Command, reply: &Reply) -> bool
     requires { WellModel model.now }
     ensures { result ≡ spec.reply_fits model.now command.now reply.now }
 {
     match reply {
-        Reply::Value(value) => is_result(model, command, value),
+        Reply::Value(value) => has_result_type_of_command(model, command, value),
         Reply::Misfit | Reply::Failed | Reply::NotRun => true,
     }
 }
@@ -58,7 +62,7 @@ fn part_matches(model: &Source, commands: &[Command], replies: &[Reply]) -> bool
     };
     match replies.split_first() {
         Some((reply, replies)) => {
-            reply_fits(model, command, reply) && part_matches(model, commands, replies)
+            is_recordable_reply(model, command, reply) && part_matches(model, commands, replies)
         }
         None => false,
     }
@@ -83,10 +87,10 @@ fn branches_match(model: &Source, branches: &[Items<Command>], replies: &[Items<
 impl Command {
     /// Whether the value has the type of the command's result. A value with a variable or a reference has no type here.
     /// Allocates nothing.
-    pub fn admits(&self, typed: &Typed, value: &Value) -> bool
+    pub fn admits_result(&self, typed: &Typed, value: &Value) -> bool
         ensures { result ≡ fits_in typed.now [] [] value.now (result_type typed.now self.now) }
     {
-        is_result(typed.source(), self, value)
+        has_result_type_of_command(typed.source(), self, value)
     }
 }
 

@@ -25,7 +25,10 @@ fn append_results(
 }
 
 /// The results that the replies of one part record: `None` if the reply is no value.
-pub fn results_of(alloc: Global, replies: &[Reply]) -> Result<Vec<Option<Value>>, AllocError>
+pub fn results_of_replies(
+    alloc: Global,
+    replies: &[Reply],
+) -> Result<Vec<Option<Value>>, AllocError>
     ensures { IfOk result (λ results. results.items ≡ map result_of replies.now) }
 {
     append_results(alloc, Vec::new(alloc), replies)

@@ -7,18 +7,18 @@ ghost use Rattle.pst_case.specs.Shape as spec;
 ghost use Rattle.pst_case.specs.Refusal.{no_memory};
 ghost use Rattle.pst_model.specs.WellTyped.{WellModel};
 
-use crate::banned::{BannedVariables, any_banned, any_has_reference};
+use crate::banned::{BannedVariables, any_has_reference, any_holds_banned_variable};
 use crate::case::{Case, Command, Shaped};
 use crate::fault::{CaseFault, CaseFaultKind};
-use crate::limits::{are_over_limit, joined_len};
-use crate::types::{each_has_type, result_types};
+use crate::limits::{count_commands_of_branches, is_case_size_outside_limits};
+use crate::types::{do_arguments_fit_parameters, result_types};
 use pst_model::{Op, Source, Typed, operation_of};
 use pst_value::{Items, Ty};
 use std::alloc::{AllocError, Global};
 
 /// The rules for the commands of a case.
 #[derive(Drop)]
-struct Rules<'a> {
+struct CaseRules<'a> {
     model: &'a Source,
     /// The types of the results of all commands.
     vars: &'a [Ty],
@@ -26,10 +26,10 @@ struct Rules<'a> {
     prefix: u32,
 }
 
-fn is_over_limit(case: &Case) -> bool
+fn is_case_over_limit(case: &Case) -> bool
     ensures { result ≡ spec.over_limit case.now }
 {
-    are_over_limit(
+    is_case_size_outside_limits(
         case.prefix.as_slice(),
         case.branches.as_slice(),
         case.suffix.as_slice(),
@@ -38,7 +38,7 @@ fn is_over_limit(case: &Case) -> bool
 
 /// Whether the arguments do not fit the operation, or hold a reference.
 #[tactic(auto, using(crate::proofs::Operations::args_fit_known))]
-fn has_bad_arguments(rules: &Rules<'_>, operation: &Op, command: &Command) -> bool
+fn has_bad_arguments(rules: &CaseRules<'_>, operation: &Op, command: &Command) -> bool
     requires well { WellModel rules.now.model.now }
     requires known { operation_of rules.now.model.now.items command.now.op ≡ Some operation.now }
     ensures { result ≡
@@ -47,13 +47,14 @@ fn has_bad_arguments(rules: &Rules<'_>, operation: &Op, command: &Command) -> bo
         || list_any spec.holds_reference command.now.args) }
 {
     let args = command.args.as_slice();
-    !each_has_type(args, operation.params.as_slice(), rules.vars) || any_has_reference(args)
+    !do_arguments_fit_parameters(args, operation.params.as_slice(), rules.vars)
+        || any_has_reference(args)
 }
 
 /// The fault of command `number`. `before` is the number of commands before its branch, and 0 in the prefix and the
 /// suffix.
 fn command_fault(
-    rules: &Rules<'_>,
+    rules: &CaseRules<'_>,
     before: u32,
     number: u32,
     command: &Command,
@@ -67,10 +68,10 @@ fn command_fault(
     let Some(operation) = operation_of(items, command.op as usize) else {
         return Some(CaseFaultKind::UnknownOp);
     };
-    if any_banned(args, &BannedVariables::Forward(number)) {
+    if any_holds_banned_variable(args, &BannedVariables::Forward(number)) {
         return Some(CaseFaultKind::ForwardVar);
     }
-    if any_banned(args, &BannedVariables::Cross(rules.prefix, before)) {
+    if any_holds_banned_variable(args, &BannedVariables::Cross(rules.prefix, before)) {
         return Some(CaseFaultKind::CrossVar);
     }
     if has_bad_arguments(rules, operation, command) {
@@ -81,7 +82,7 @@ fn command_fault(
 
 /// The first fault of a part whose first command is `number`.
 fn part_fault(
-    rules: &Rules<'_>,
+    rules: &CaseRules<'_>,
     before: u32,
     number: u32,
     commands: &[Command],
@@ -102,7 +103,11 @@ fn part_fault(
 }
 
 /// The first fault of the branches, which have `before` commands before them.
-fn branches_fault(rules: &Rules<'_>, before: u32, branches: &[Items<Command>]) -> Option<CaseFault>
+fn branches_fault(
+    rules: &CaseRules<'_>,
+    before: u32,
+    branches: &[Items<Command>],
+) -> Option<CaseFault>
     requires well { WellModel rules.now.model.now }
     requires few { before + length (spec.joined branches.now) + 1 < 2 ^ 32 }
     ensures { result ≡
@@ -116,7 +121,7 @@ fn branches_fault(rules: &Rules<'_>, before: u32, branches: &[Items<Command>]) -
 }
 
 /// The first fault of the commands of a case, in the order of their numbers.
-fn commands_fault(rules: &Rules<'_>, case: &Case) -> Option<CaseFault>
+fn first_fault_of_commands(rules: &CaseRules<'_>, case: &Case) -> Option<CaseFault>
     requires well { WellModel rules.now.model.now }
     requires prefix { rules.now.prefix ≡ length case.now.prefix }
     requires few { spec.before_suffix case.now + length case.now.suffix + 1 < 2 ^ 32 }
@@ -129,7 +134,7 @@ fn commands_fault(rules: &Rules<'_>, case: &Case) -> Option<CaseFault>
     if let Some(fault) = branches_fault(rules, rules.prefix, case.branches.as_slice()) {
         return Some(fault);
     }
-    let before = rules.prefix + joined_len(case.branches.as_slice());
+    let before = rules.prefix + count_commands_of_branches(case.branches.as_slice());
     part_fault(rules, 0, before + 1, case.suffix.as_slice())
 }
 
@@ -138,19 +143,19 @@ fn first_fault(alloc: Global, model: &Source, case: &Case) -> Result<Option<Case
     requires { WellModel model.now }
     ensures { IfOk result (λ fault. fault ≡ spec.shape_fault model.now case.now) }
 {
-    if is_over_limit(case) {
+    if is_case_over_limit(case) {
         return Ok(Some(CaseFault {
             kind: CaseFaultKind::OverLimit,
             command: 0,
         }));
     }
     let vars = result_types(alloc, model, case)?;
-    let rules = Rules {
+    let rules = CaseRules {
         model,
         vars: vars.as_slice(),
         prefix: case.prefix.len() as u32,
     };
-    Ok(commands_fault(&rules, case))
+    Ok(first_fault_of_commands(&rules, case))
 }
 
 /// Returns the case as a `Shaped` if it has the shape of the model, and otherwise the case with its first fault. If an

@@ -3,17 +3,17 @@
 use Rattle.std.specs.Prelude.{◌≡◌, ℕ, List}
 use Rattle.pst_cli.specs.ChosenItem.{IsOfItem}
 use Rattle.pst_cli.specs.Output.{IsOutput, status_of}
-use Rattle.pst_cli.specs.declared.chosen.Chosen.{Chosen}
-use Rattle.pst_cli.specs.declared.chosen.Chosen.TheVariants as chosen
+use Rattle.pst_cli.specs.declared.chosen.ChosenItems.{ChosenItems}
+use Rattle.pst_cli.specs.declared.chosen.ChosenItems.TheVariants as chosen
 use Rattle.pst_cli.specs.declared.status.Status.{Status}
 use Rattle.pst_judge.specs.declared.judgement.Judged.{Judged}
 
 -- a text, of which nothing is said, with the status of the judgements; or the refusal of an item that there
 -- is none of
-abbrev pub IsExplanation : Chosen → List Judged → List ℕ → Status → Type 0
+abbrev pub IsExplanation : ChosenItems → List Judged → List ℕ → Status → Type 0
 IsExplanation chosen.All js text status = status ≡ status_of js
 IsExplanation chosen.Failures js text status = status ≡ status_of js
 IsExplanation (chosen.Item number) js text status = IsOfItem number js text status
 
-abbrev pub IsExplainOutput : List ℕ → Chosen → List ℕ → Status → Type 0
+abbrev pub IsExplainOutput : List ℕ → ChosenItems → List ℕ → Status → Type 0
 IsExplainOutput input which text status = IsOutput (IsExplanation which) input text status

@@ -20,7 +20,7 @@ use Rattle.pst_rejudge.specs.Objects.{object_line}
 use Rattle.pst_rejudge.specs.Verdicts.{place_fields}
 use Rattle.pst_rejudge.specs.declared.field.Field.{Field}
 use Rattle.pst_rejudge.specs.declared.field.Field.TheVariants.{Number}
-use Rattle.pst_rejudge.specs.declared.field.Name.TheVariants as name
+use Rattle.pst_rejudge.specs.declared.field.FieldName.TheVariants as name
 use Rattle.pst_model.specs.declared.model.Source.{Source}
 use Rattle.pst_sexpr.specs.declared.form.Form.{Form}
 use Rattle.pst_trial.specs.PlanView.{PlanView}

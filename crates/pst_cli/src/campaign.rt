@@ -20,7 +20,7 @@ use crate::status::Status;
 use pst_campaign::{CampaignFault, NeverStops, StopCondition, Watch, campaign_until};
 use pst_ledger::Closed;
 use pst_model::Typed;
-use pst_report::{CampaignStatus, report, status_of_early_ended_campaign};
+use pst_report::{CampaignStatus, report, status_of_stoppable_campaign};
 use pst_sexpr::{Out, Sink};
 use pst_system::{BoxedSystem, System};
 use pst_trial::{Plan, Record, Settings};
@@ -63,7 +63,7 @@ fn exit_status_after_campaign(ended: CampaignStatus) -> Status
 }
 
 /// The report of a campaign, and the status. Adds the records to `notes` first.
-fn output_of_campaign_report(
+fn note_results_and_report_campaign(
     alloc: Global,
     plan: &Plan,
     closed: &Closed<Record>,
@@ -79,7 +79,7 @@ fn output_of_campaign_report(
     match report(alloc, plan, closed, &mut out) {
         Ok(()) => Ok(Output {
             text: out.into_inner(),
-            status: exit_status_after_campaign(status_of_early_ended_campaign(closed)),
+            status: exit_status_after_campaign(status_of_stoppable_campaign(closed)),
         }),
         Err(_) => Err(AllocError),
     }
@@ -118,7 +118,7 @@ fn run_campaign_on_model<K: StopCondition + Sync, R: Threads + Wait + Sync>(
 {
     let plan = plan_of_model_and_settings(alloc, typed, settings)?;
     match campaign_until(rt, alloc, plan.clone()?, systems, watch) {
-        Ok(closed) => output_of_campaign_report(alloc, &plan, &closed, notes),
+        Ok(closed) => note_results_and_report_campaign(alloc, &plan, &closed, notes),
         Err(fault) => output_of_refused_campaign(alloc, fault),
     }
 }
@@ -174,7 +174,7 @@ pub fn campaign_text<W: Sink, K: Watch + Sync, R: Threads + Wait + Sync>(
         (W.taken sink.old) (W.taken sink.new) (W.broken sink.new) result }
 {
     let mut notes = CampaignNotes::new();
-    run_campaign_and_take_notes(
+    run_and_report_campaign_taking_notes(
         rt,
         alloc,
         input,
@@ -189,7 +189,11 @@ pub fn campaign_text<W: Sink, K: Watch + Sync, R: Threads + Wait + Sync>(
 /// Does what [`campaign_text`] does until `watch` says that the campaign is over, and notes what is wanted beside the report.
 /// If the campaign ends early, the status is `Failed` if a trial did not pass and none is lost, and else `Lost`. If an
 /// allocation fails, notes may be missing.
-pub fn run_campaign_and_take_notes<W: Sink, K: StopCondition + Sync, R: Threads + Wait + Sync>(
+pub fn run_and_report_campaign_taking_notes<
+    W: Sink,
+    K: StopCondition + Sync,
+    R: Threads + Wait + Sync,
+>(
     rt: &R,
     alloc: Global,
     input: &[u8],

@@ -11,7 +11,7 @@ use std::alloc::{AllocError, Global};
 
 /// Which items to explain.
 #[derive(Clone, Copy, Debug, PartialEq, Eq, Drop)]
-pub enum Chosen {
+pub enum ChosenItems {
     /// All of them.
     All,
     /// Those that are neither explained nor valid.
@@ -20,13 +20,13 @@ pub enum Chosen {
     Item(usize),
 }
 
-impl Chosen {
+impl ChosenItems {
     /// Whether to explain item `number`, with this judgement.
     pub(crate) fn includes(self, number: usize, judged: &Judged) -> bool {
         match self {
-            Chosen::All => true,
-            Chosen::Failures => !is_explained_or_valid(judged),
-            Chosen::Item(chosen) => chosen == number,
+            ChosenItems::All => true,
+            ChosenItems::Failures => !is_explained_or_valid(judged),
+            ChosenItems::Item(chosen) => chosen == number,
         }
     }
 }

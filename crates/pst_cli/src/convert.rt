@@ -6,7 +6,7 @@ ghost use Rattle.pst_runs.specs.Lawful.{AreLawful, IsLawful};
 
 use crate::items::{ModelAndRuns, read_model_and_runs_of_input};
 use crate::output::{Output, write_with_status_or_lost};
-use crate::run::run_tree_line;
+use crate::run::tree_line_of_run;
 use crate::status::Status;
 use pst_case::Run;
 use pst_json_runs::run_json_line;
@@ -34,7 +34,7 @@ pub(crate) fn item_line_in_form(
     ensures { IfOk result (λ line. line.items ≡ line_in form typed.now run.now) }
 {
     match form {
-        ItemForm::Trees => run_tree_line(alloc, typed, run),
+        ItemForm::Trees => tree_line_of_run(alloc, typed, run),
         ItemForm::Json => run_json_line(alloc, typed, run),
     }
 }

@@ -82,7 +82,7 @@ impl ItemResultCounts {
     }
 
     /// Counts judged items.
-    pub fn add_all(&mut self, all: &[Judged]) {
+    pub fn add_judged_items(&mut self, all: &[Judged]) {
         for judged in all {
             self.add(judged);
         }
@@ -99,7 +99,7 @@ impl ItemResultCounts {
     }
 
     /// Adds the counts of `other`, and takes its first broken run if this one has no broken run yet.
-    pub(crate) fn add_counts(&mut self, other: ItemResultCounts) {
+    pub(crate) fn add_counts_and_first_broken_run(&mut self, other: ItemResultCounts) {
         self.explained = self.explained.saturating_add(other.explained);
         self.unexplained = self.unexplained.saturating_add(other.unexplained);
         self.fault = self.fault.saturating_add(other.fault);

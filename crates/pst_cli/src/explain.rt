@@ -6,7 +6,7 @@ ghost use Rattle.pst_cli.specs.Sending.{Prints};
 ghost use Rattle.pst_judge.specs.Judgement.{IsJudgement};
 ghost use Rattle.pst_runs.specs.Lawful.{AreLawful, IsLawful};
 
-use crate::chosen::{Chosen, is_number_of_judged_item, output_of_missing_item};
+use crate::chosen::{ChosenItems, is_number_of_judged_item, output_of_missing_item};
 use crate::form::ExplanationForm;
 use crate::judge::status_of_judgements;
 use crate::judged::{JudgedFile, concatenate_run_lists, read_and_judge_file};
@@ -29,7 +29,7 @@ pub struct ExplainOptions<'a> {
     /// The files of the input; none if it is one text.
     pub files: &'a [SourceFile<'a>],
     /// Which items to explain.
-    pub chosen: Chosen,
+    pub chosen: ChosenItems,
     /// How many of the chosen items to explain, at most: the first ones.
     pub most: usize,
     /// The form of the explanations.
@@ -77,7 +77,7 @@ fn count_items_to_explain(asked: ExplainOptions<'_>, all: &[Judged]) -> usize {
 }
 
 /// The explanations of the chosen items, numbered from 1. `places` says where the items begin.
-fn explanations_of_chosen_items(
+fn document_explaining_chosen_items(
     alloc: Global,
     compiled: &Compiled,
     asked: ExplainOptions<'_>,
@@ -91,7 +91,7 @@ fn explanations_of_chosen_items(
 {
     let typed = compiled.typed();
     let form = asked.form;
-    steps.set_total(count_items_to_explain(asked, all));
+    steps.restart_with_total(count_items_to_explain(asked, all));
     let mut text = form.text_before_items(alloc, asked.files, typed.source())?;
     let mut number: usize = 0;
     let mut count: usize = 0;
@@ -134,13 +134,13 @@ fn output_of_explanations_or_missing_item(
     requires judged { AreJudged compiled.now runs.now all.now }
     ensures { IfOk result (λ output. IsExplanation asked.entry.chosen all.now output.text.items output.status) }
 {
-    if let Chosen::Item(number) = asked.chosen {
+    if let ChosenItems::Item(number) = asked.chosen {
         if !is_number_of_judged_item(number, all) {
             return output_of_missing_item(alloc, number, all.len());
         }
     }
     Ok(Output {
-        text: explanations_of_chosen_items(alloc, compiled, asked, places, runs, all, steps)?,
+        text: document_explaining_chosen_items(alloc, compiled, asked, places, runs, all, steps)?,
         status: status_of_judgements(all),
     })
 }

@@ -27,7 +27,7 @@ fn run_if_history_matches_case(typed: &Typed, shaped: Shaped, history: History) 
 }
 
 /// The run of a case with its history, if it is a run of the model.
-pub(crate) fn run_of_case_and_history(
+pub(crate) fn run_if_case_and_history_fit_model(
     alloc: Global,
     typed: &Typed,
     case: Case,
@@ -45,7 +45,7 @@ pub(crate) fn run_of_case_and_history(
 }
 
 /// Explains why no interleaving explains a judged run. Returns `None` if the run is explained.
-fn explanation_of_judged_run_unless_explained<'a>(
+fn explanation_if_judged_run_failed<'a>(
     alloc: Global,
     compiled: &'a Compiled,
     run: &'a Run,
@@ -67,7 +67,7 @@ fn explanation_of_judged_run_unless_explained<'a>(
 
 /// Judges a run of the model, and explains why no interleaving explains it. Returns `None` if the
 /// run is explained.
-fn explanation_of_lawful_run_unless_explained(
+fn judge_run_and_explain_if_failed(
     alloc: Global,
     compiled: &Compiled,
     run: &Run,
@@ -76,27 +76,27 @@ fn explanation_of_lawful_run_unless_explained(
     requires { IsLawful compiled.now run.now }
 {
     let judged = judge_one(compiled, alloc, run)?;
-    explanation_of_judged_run_unless_explained(alloc, compiled, run, &judged, width)
+    explanation_if_judged_run_failed(alloc, compiled, run, &judged, width)
 }
 
 /// Explains why no interleaving explains the run of a case with its history. Returns `None` if the
 /// run is explained or is no run of the model.
-fn explanation_of_case_and_history_unless_explained(
+fn judge_history_and_explain_if_failed(
     alloc: Global,
     compiled: &Compiled,
     case: Case,
     history: History,
     width: usize,
 ) -> Result<Option<Vec<u8>>, AllocError> {
-    match run_of_case_and_history(alloc, compiled.typed(), case, history)? {
-        Some(run) => explanation_of_lawful_run_unless_explained(alloc, compiled, &run, width),
+    match run_if_case_and_history_fit_model(alloc, compiled.typed(), case, history)? {
+        Some(run) => judge_run_and_explain_if_failed(alloc, compiled, &run, width),
         None => Ok(None),
     }
 }
 
 /// Explains why no interleaving explains a recorded run on the model at the start of the input, in lines of at most
 /// `width` bytes. Returns `None` if the run is explained or is no run of the model, or the input is refused.
-pub fn explanation_of_run_unless_explained(
+pub fn compile_model_and_explain_failed_run(
     alloc: Global,
     input: &[u8],
     case: Case,
@@ -106,5 +106,5 @@ pub fn explanation_of_run_unless_explained(
     let Ok(file) = compile_model_of_input(alloc, input)? else {
         return Ok(None);
     };
-    explanation_of_case_and_history_unless_explained(alloc, &file.compiled, case, history, width)
+    judge_history_and_explain_if_failed(alloc, &file.compiled, case, history, width)
 }

@@ -3,7 +3,7 @@ ghost use Rattle.pst_judge.specs.Judgement.{IsJudgement};
 ghost use Rattle.pst_runs.specs.Lawful.{IsLawful};
 
 use crate::compiled::compile_model_of_input;
-use crate::explained_run::run_of_case_and_history;
+use crate::explained_run::run_if_case_and_history_fit_model;
 use pst_case::{Case, History, Run};
 use pst_compile::Compiled;
 use pst_explain::explain_item;
@@ -62,7 +62,7 @@ fn shrunk_run_of_failed_trial(entry: &Entry<Record>) -> Option<&FailingCase<Judg
 impl CampaignFailures {
     /// Returns the failures of a campaign: of those that were shrunk to the same run the first, and at most 100. The
     /// facts count all failures.
-    pub(crate) fn from_entries(
+    pub(crate) fn from_first_distinct_failures(
         alloc: Global,
         plan: &Plan,
         entries: &[Entry<Record>],
@@ -113,7 +113,7 @@ fn judged_run_explanation_json<'a>(
 
 /// Judges a run of the model, and explains it as JSON. `number` is its number on the page, and
 /// `trial` that of its trial.
-fn run_explanation_json(
+fn judge_run_and_explain_as_json(
     alloc: Global,
     compiled: &Compiled,
     run: &Run,
@@ -127,7 +127,7 @@ fn run_explanation_json(
 }
 
 /// The explanation of a failure as JSON. `number` is its number on the page. `None`: it is no run of the model.
-fn trial_failure_explanation_json(
+fn judge_failure_and_explain_as_json(
     alloc: Global,
     compiled: &Compiled,
     number: usize,
@@ -138,14 +138,15 @@ fn trial_failure_explanation_json(
         case,
         history,
     } = failure;
-    let Some(run) = run_of_case_and_history(alloc, compiled.typed(), case, history)? else {
+    let Some(run) = run_if_case_and_history_fit_model(alloc, compiled.typed(), case, history)?
+    else {
         return Ok(None);
     };
-    Ok(Some(run_explanation_json(alloc, compiled, &run, number, trial)?))
+    Ok(Some(judge_run_and_explain_as_json(alloc, compiled, &run, number, trial)?))
 }
 
 /// Adds the explanations of failures, and the end of their document.
-fn add_failure_explanations_json(
+fn add_failures_json_and_document_end(
     text: &mut Vec<u8>,
     alloc: Global,
     compiled: &Compiled,
@@ -154,7 +155,7 @@ fn add_failure_explanations_json(
     let mut count = 0usize;
     for failure in failures {
         let number = count.saturating_add(1);
-        if let Some(json) = trial_failure_explanation_json(alloc, compiled, number, failure)? {
+        if let Some(json) = judge_failure_and_explain_as_json(alloc, compiled, number, failure)? {
             if count > 0 {
                 text.extend_from_slice(BETWEEN_ITEMS.as_bytes())?;
             }
@@ -186,7 +187,7 @@ pub fn campaign_failures_html_page(
     let start = json_campaign_document_start(alloc, files, facts, compiled.typed().source())?;
     let mut text = Vec::from_slice(alloc, BEFORE_DATA.as_bytes())?;
     text.extend_from_slice(start.as_slice())?;
-    add_failure_explanations_json(&mut text, alloc, compiled, each)?;
+    add_failures_json_and_document_end(&mut text, alloc, compiled, each)?;
     text.extend_from_slice(AFTER_DATA.as_bytes())?;
     Ok(Some(text))
 }

@@ -22,9 +22,9 @@ use crate::status::Status;
 use crate::stream::Cut;
 use pst_case::Run;
 use pst_eval::FaultPlace;
-use pst_rejudge::{Field, Name, add_number_field, add_text_field, json_object_line};
+use pst_rejudge::{Field, FieldName, add_number_field, add_text_field, json_object_line};
 use pst_sexpr::{Sink, WriteFailed, put_all};
-use pst_trial::{Plan, Settings, may_share_records, trial_case};
+use pst_trial::{Plan, Settings, generate_trial_case, prove_records_are_send_and_sync};
 use pst_typing::{ModelFile, Refusal, load};
 use rayon::prelude::*;
 use std::alloc::{AllocError, Global};
@@ -34,7 +34,11 @@ use std::thread::Threads;
 const BLOCK: u64 = 128;
 
 /// `genfault NUMBER COMMAND CALLBACK KIND`.
-fn genfault_line(alloc: Global, number: u64, place: &FaultPlace) -> Result<String, AllocError>
+fn generation_fault_line(
+    alloc: Global,
+    number: u64,
+    place: &FaultPlace,
+) -> Result<String, AllocError>
     ensures { IfOk result (λ line. string_bytes line ≡ genfault_line number place.now) }
 {
     let mut line = format!(in alloc; "genfault {number} ")?;
@@ -47,14 +51,23 @@ fn genfault_line(alloc: Global, number: u64, place: &FaultPlace) -> Result<Strin
 }
 
 /// The members of the object of a fault: the number of the trial, the command, the callback and the kind.
-fn genfault_fields(alloc: Global, number: u64, place: &FaultPlace) -> Result<Vec<Field>, AllocError>
+fn generation_fault_json_fields(
+    alloc: Global,
+    number: u64,
+    place: &FaultPlace,
+) -> Result<Vec<Field>, AllocError>
     ensures { IfOk result (λ fields. fields.items ≡ genfault_fields number place.now) }
 {
     let mut fields = Vec::new(alloc);
-    add_number_field(&mut fields, Name::GenFault, number)?;
-    add_number_field(&mut fields, Name::Command, place.command as u64)?;
-    add_text_field(alloc, &mut fields, Name::Callback, place.callback.name())?;
-    add_text_field(alloc, &mut fields, Name::Fault, place.fault.name())?;
+    add_number_field(&mut fields, FieldName::GenFault, number)?;
+    add_number_field(&mut fields, FieldName::Command, place.command as u64)?;
+    add_text_field(
+        alloc,
+        &mut fields,
+        FieldName::Callback,
+        place.callback.name(),
+    )?;
+    add_text_field(alloc, &mut fields, FieldName::Fault, place.fault.name())?;
     Ok(fields)
 }
 
@@ -68,9 +81,9 @@ fn generation_fault_line_in_form(
     ensures { IfOk result (λ line. line.items ≡ fault_line form number place.now) }
 {
     match form {
-        ItemForm::Trees => Ok(genfault_line(alloc, number, place)?.into_bytes()),
+        ItemForm::Trees => Ok(generation_fault_line(alloc, number, place)?.into_bytes()),
         ItemForm::Json => {
-            let fields = genfault_fields(alloc, number, place)?;
+            let fields = generation_fault_json_fields(alloc, number, place)?;
             json_object_line(alloc, fields.as_slice())
         }
     }
@@ -86,7 +99,7 @@ fn output_of_case_or_generation_fault(
 ) -> Result<Output, AllocError>
     ensures { IfOk result (IsLineOf form plan.now number) }
 {
-    match trial_case(alloc, plan, number)? {
+    match generate_trial_case(alloc, plan, number)? {
         Ok(valid) => {
             let run = Run {
                 shaped: valid.into_shaped(),
@@ -118,7 +131,7 @@ fn outputs_of_cases_or_generation_faults<R: Threads + Sync>(
     ensures { IfOk result
         (λ outputs. AllZip (IsLineOf form plan.now) (range_with_len first (behind - first)) outputs.items) }
 {
-    may_share_records();
+    prove_records_are_send_and_sync();
     (first..behind)
         .into_par_iter()
         .with_min_len(1)
@@ -131,7 +144,7 @@ fn outputs_of_cases_or_generation_faults<R: Threads + Sync>(
 }
 
 /// Writes the lines of the trials from `first` on, and returns the worst of `so_far` and their statuses.
-fn write_generated_case_lines<W: Sink, R: Threads + Sync>(
+fn generate_and_write_block_of_cases<W: Sink, R: Threads + Sync>(
     rt: &R,
     alloc: Global,
     plan: &Plan,
@@ -160,7 +173,7 @@ fn write_generated_case_lines<W: Sink, R: Threads + Sync>(
 }
 
 /// Writes the lines of the trials from `first` on, and returns the worst of their statuses.
-fn write_all_generated_cases<W: Sink, R: Threads + Sync>(
+fn generate_and_write_cases_in_blocks<W: Sink, R: Threads + Sync>(
     rt: &R,
     alloc: Global,
     plan: &Plan,
@@ -178,7 +191,9 @@ fn write_all_generated_cases<W: Sink, R: Threads + Sync>(
     let mut next = first;
     while next < behind {
         let end = next.saturating_add(BLOCK).min(behind);
-        status = match write_generated_case_lines(rt, alloc, plan, form, next, end, status, sink) {
+        status = match generate_and_write_block_of_cases(
+            rt, alloc, plan, form, next, end, status, sink,
+        ) {
             Ok(status) => status,
             Err(cut) => return Err(cut),
         };
@@ -221,7 +236,7 @@ fn write_out_of_memory_refusal<W: Sink>(form: ItemForm, sink: &mut W) -> Status
 /// The status is `Failed` if a callback faults, else `Accepted`. If the model is refused, writes its refusal alone,
 /// with the status `Refused`. If an allocation fails, writes `refused memory` after the lines so far, with the status
 /// `Lost`. In JSON both are objects. The status is also `Lost` if the writer fails.
-pub fn generate_text<W: Sink, R: Threads + Sync>(
+pub fn generate_and_write_cases_of_input<W: Sink, R: Threads + Sync>(
     rt: &R,
     alloc: Global,
     input: &[u8],
@@ -257,7 +272,7 @@ pub fn generate_text<W: Sink, R: Threads + Sync>(
     let Ok(plan) = Plan::new(alloc, typed, settings) else {
         return write_out_of_memory_refusal(form, sink);
     };
-    match write_all_generated_cases(rt, alloc, &plan, form, first, first + count, sink) {
+    match generate_and_write_cases_in_blocks(rt, alloc, &plan, form, first, first + count, sink) {
         Ok(status) => status,
         Err(Cut::Unread) => write_out_of_memory_refusal(form, sink),
         Err(Cut::NoMemory) => write_out_of_memory_refusal(form, sink),

@@ -136,7 +136,7 @@ fn output_of_graph_command<R: Threads + Sync>(
 /// exist, writes `refused item N of COUNT` alone, with the status `Refused`. If the input is refused, writes its first
 /// refusal alone, as `judge_text` does. Otherwise the status is that of `judge_text`. If an allocation fails, writes
 /// `refused memory` alone.
-pub fn graph_text<W: Sink, R: Threads + Sync>(
+pub fn write_search_graph_of_item<W: Sink, R: Threads + Sync>(
     rt: &R,
     alloc: Global,
     input: &[u8],

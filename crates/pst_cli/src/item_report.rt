@@ -9,7 +9,7 @@ ghost use Rattle.pst_system.specs.Kept.{AreKept};
 use crate::counts::ItemResultCounts;
 use crate::lines::item_verdict_line;
 use crate::output::Output;
-use crate::run::{run_tree_line, status_of_judgement};
+use crate::run::{status_of_judgement, tree_line_of_run};
 use crate::status::Status;
 use pst_case::{History, Run, Shaped};
 use pst_compile::Compiled;
@@ -49,7 +49,7 @@ fn judge_and_report_driven_run(
         shaped,
         history: Some(history),
     };
-    let line = run_tree_line(alloc, compiled.typed(), &run)?;
+    let line = tree_line_of_run(alloc, compiled.typed(), &run)?;
     let judged = judge_one(compiled, alloc, &run)?;
     counts.add(&judged);
     counts.keep_run_if_first_broken(number, run, &judged);

@@ -8,12 +8,12 @@ use crate::compiled::{CompiledModelAndTrees, compile_model_of_input};
 use crate::items::{ModelAndRuns, read_model_and_runs_of_input};
 use crate::kept::Keep;
 use crate::output::Output;
-use crate::sharing::may_share_compiled;
+use crate::sharing::prove_compiled_models_are_sync;
 use pst_case::Run;
 use pst_compile::Compiled;
 use pst_judge::Judged;
 use pst_rejudge::{
-    JudgedParts, ProgressCounter, judge_in_parts, rejudge_with_progress,
+    JudgedParts, ProgressCounter, read_and_judge_in_parts, rejudge_with_progress,
     split_before_second_bracket_line,
 };
 use pst_sexpr::MAX_BYTES;
@@ -57,9 +57,9 @@ fn read_and_judge_in_parallel_if_possible<R: Threads + Sync>(
     if trees.len() != 1 {
         return Ok(None);
     }
-    may_share_compiled();
+    prove_compiled_models_are_sync();
     let keeps = keep.keeps_runs_of_model(compiled.typed());
-    match judge_in_parts(rt, &compiled, alloc, compiled.typed(), rest, keeps, steps)? {
+    match read_and_judge_in_parts(rt, &compiled, alloc, compiled.typed(), rest, keeps, steps)? {
         Some(JudgedParts { runs, judged }) => Ok(Some(JudgedFile {
             compiled,
             runs,
@@ -91,7 +91,7 @@ pub fn concatenate_run_lists(alloc: Global, parts: Vec<Vec<Run>>) -> Result<Vec<
 
 /// Reads the input from its first byte to its last and then judges its items, several at once. Returns the items and
 /// judgements, or the output for the first refusal.
-fn read_in_order_then_judge<R: Threads + Sync>(
+fn read_all_runs_then_judge_in_parallel<R: Threads + Sync>(
     rt: &R,
     alloc: Global,
     input: &[u8],
@@ -105,8 +105,8 @@ fn read_in_order_then_judge<R: Threads + Sync>(
         Ok(read) => read,
         Err(output) => return Ok(Err(output)),
     };
-    may_share_compiled();
-    steps.set_total(runs.len());
+    prove_compiled_models_are_sync();
+    steps.restart_with_total(runs.len());
     let judged = rejudge_with_progress(rt, &compiled, alloc, runs.as_slice(), steps)?;
     let runs = wrap_runs_in_one_list(alloc, runs)?;
     Ok(Ok(JudgedFile {
@@ -131,6 +131,6 @@ pub fn read_and_judge_file<R: Threads + Sync>(
 {
     match read_and_judge_in_parallel_if_possible(rt, alloc, input, keep, steps)? {
         Some(file) => Ok(Ok(file)),
-        None => read_in_order_then_judge(rt, alloc, input, steps),
+        None => read_all_runs_then_judge_in_parallel(rt, alloc, input, steps),
     }
 }

@@ -1,5 +1,5 @@
 //! `pst judge --keep-going`.
-ghost use Rattle.std.specs.Prelude.{◌≡◌, ◌++◌, false, IfOk, IfSome, OnOk, string_bytes};
+ghost use Rattle.std.specs.Prelude.{◌≡◌, ◌+◌, ◌++◌, false, IfOk, IfSome, MatchResult, OnOk, string_bytes};
 ghost use Rattle.pst_cli.specs.KeepingOn.{
   HoldsAnswers,
   IsKeepingOnOutput,
@@ -15,6 +15,7 @@ ghost use Rattle.pst_cli.specs.KeepingOn.{
 };
 ghost use Rattle.pst_cli.specs.Sending.{Prints};
 ghost use Rattle.pst_cli.specs.declared.status.Status.TheVariants.{Accepted};
+ghost use Rattle.pst_typing.specs.Loading.{IsRefusal};
 
 use crate::compiled::{CompiledModelAndTrees, compile_model_of_input};
 use crate::judge::{is_explained_or_valid, refused_run_line};
@@ -22,13 +23,13 @@ use crate::lines::add_item_verdict_line;
 use crate::output::{Output, write_with_status_or_lost};
 use crate::refusal::refusal_output;
 use crate::run::status_of_judgement;
-use crate::sharing::may_share_compiled;
+use crate::sharing::prove_compiled_models_are_sync;
 use crate::shown::Shown;
 use crate::status::Status;
 use pst_rejudge::{ItemResult, ProgressCounter, read_and_judge_each_tree};
 use pst_runs::RunFault;
 use pst_sexpr::Sink;
-use pst_typing::trees_after_model;
+use pst_typing::{Refusal, trees_after_model};
 use std::alloc::{AllocError, Global};
 use std::thread::Threads;
 
@@ -55,13 +56,22 @@ pub(crate) fn add_item_result_line(
     }
 }
 
-/// The lines of all items, numbered from 1.
-fn item_result_lines(alloc: Global, answers: &[ItemResult]) -> Result<String, AllocError>
-    ensures { IfOk result (λ text. string_bytes text ≡ answer_lines 1 answers.now) }
+/// The lines of the answers, numbered from `count + 1` on.
+pub(crate) fn numbered_item_result_lines(
+    alloc: Global,
+    count: usize,
+    answers: &[ItemResult],
+) -> Result<String, AllocError>
+    ensures { IfOk result (λ text. string_bytes text ≡ answer_lines (count + 1) answers.now) }
 {
     let mut text = String::new(alloc);
-    for (index, answer) in answers.iter().enumerate() {
-        add_item_result_line(alloc, &mut text, index + 1, answer)?;
+    let mut number = count;
+    for answer in answers {
+        number = match number.checked_add(1) {
+            Some(number) => number,
+            None => return Err(AllocError),
+        };
+        add_item_result_line(alloc, &mut text, number, answer)?;
     }
     Ok(text)
 }
@@ -112,7 +122,7 @@ fn shown_item_result_lines(
     ensures { IfOk result (λ text. string_bytes text ≡ shown_answer_lines shown answers.now) }
 {
     match shown {
-        Shown::All => item_result_lines(alloc, answers),
+        Shown::All => numbered_item_result_lines(alloc, 0, answers),
         Shown::Failures => failed_item_result_lines(alloc, answers),
     }
 }
@@ -127,15 +137,22 @@ pub(crate) fn status_of_item_result(answer: &ItemResult) -> Status
     }
 }
 
-/// The worst of the statuses of all items.
-pub fn worst_status_of_item_results(answers: &[ItemResult]) -> Status
-    ensures { result ≡ worst_status Accepted answers.now }
+/// The worst of `so_far` and the statuses of the answers.
+pub(crate) fn worst_status_after_item_results(so_far: Status, answers: &[ItemResult]) -> Status
+    ensures { result ≡ worst_status so_far answers.now }
 {
-    let mut status = Status::Accepted;
+    let mut status = so_far;
     for answer in answers {
         status = status.or_worse(status_of_item_result(answer));
     }
     status
+}
+
+/// The worst of the statuses of all items.
+pub fn worst_status_of_item_results(answers: &[ItemResult]) -> Status
+    ensures { result ≡ worst_status Accepted answers.now }
+{
+    worst_status_after_item_results(Status::Accepted, answers)
 }
 
 /// A file, and the answer to each item after its model.
@@ -145,6 +162,30 @@ pub struct FileWithItemResults {
     pub file: CompiledModelAndTrees,
     /// The answers, in the order of the items.
     pub answers: Vec<ItemResult>,
+}
+
+/// Judges each item after the model at the start of the input, several at once, and counts them in `steps`; or returns
+/// the refusal of the model.
+pub(crate) fn judge_each_item_of_input<R: Threads + Sync>(
+    rt: &R,
+    alloc: Global,
+    input: &[u8],
+    steps: &ProgressCounter,
+) -> Result<Result<FileWithItemResults, Refusal>, AllocError>
+    ensures { IfOk result (λ read. MatchResult read
+        (λ answered. HoldsAnswers input.now answered.file.compiled answered.file.trees.items answered.answers.items)
+        (λ refusal. IsRefusal input.now refusal)) }
+{
+    let file = match compile_model_of_input(alloc, input)? {
+        Ok(file) => file,
+        Err(refusal) => return Ok(Err(refusal)),
+    };
+    let items = trees_after_model(file.trees.as_slice());
+    prove_compiled_models_are_sync();
+    steps.restart_with_total(items.len());
+    let typed = file.compiled.typed();
+    let answers = read_and_judge_each_tree(rt, &file.compiled, alloc, typed, items, steps)?;
+    Ok(Ok(FileWithItemResults { file, answers }))
 }
 
 /// The lines of the displayed items after the model, and all answers; or the refusal of the model.
@@ -159,24 +200,14 @@ fn output_of_judge_command_keep_going<R: Threads + Sync>(
     ensures held { IfOk result (λ r. IfSome r.1 (λ answered. HoldsAnswers input.now answered.file.compiled
         answered.file.trees.items answered.answers.items)) }
 {
-    let file = match compile_model_of_input(alloc, input)? {
-        Ok(file) => file,
+    let answered = match judge_each_item_of_input(rt, alloc, input, steps)? {
+        Ok(answered) => answered,
         Err(refusal) => return Ok((refusal_output(alloc, &refusal)?, None)),
     };
-    let items = trees_after_model(file.trees.as_slice());
-    may_share_compiled();
-    steps.set_total(items.len());
-    let answers = read_and_judge_each_tree(
-        rt,
-        &file.compiled,
-        alloc,
-        file.compiled.typed(),
-        items,
-        steps,
-    )?;
-    let text = shown_item_result_lines(alloc, shown, answers.as_slice())?;
-    let output = Output::new(text, worst_status_of_item_results(answers.as_slice()));
-    Ok((output, Some(FileWithItemResults { file, answers })))
+    let answers = answered.answers.as_slice();
+    let text = shown_item_result_lines(alloc, shown, answers)?;
+    let output = Output::new(text, worst_status_of_item_results(answers));
+    Ok((output, Some(answered)))
 }
 
 /// Does what [`judge_text_keep_going`] does, but with [`Shown::Failures`] writes only the lines of items that are

@@ -6,24 +6,26 @@ ghost use Rattle.pst_cli.specs.StreamOutput.{StreamsAreFiles};
 
 use pst_judge::judgement_is_unique;
 use pst_rejudge::stream_lines_are_judged_as_items;
-use pst_sexpr::laws::{one_fault, one_reading, trees_have_no_fault};
-use pst_typing::{ill_is_not_well, ill_typed_item_is_unique};
+use pst_sexpr::laws::{
+    bytes_have_one_fault, bytes_have_one_reading, bytes_with_trees_have_no_fault,
+};
+use pst_typing::{first_ill_typed_item_is_unique, ill_typed_item_makes_model_ill_typed};
 
 /// `check_text` and `judge_text` have at most one text and one status for an input, by their definitions.
 pub fn check_and_judge_outputs_are_unique()
     ensures check { OneCheckOutput }
     ensures judge { OneJudgeOutput }
 {
-    one_reading();
-    one_fault();
-    trees_have_no_fault();
-    ill_typed_item_is_unique();
-    ill_is_not_well();
+    bytes_have_one_reading();
+    bytes_have_one_fault();
+    bytes_with_trees_have_no_fault();
+    first_ill_typed_item_is_unique();
+    ill_typed_item_makes_model_ill_typed();
     judgement_is_unique();
 }
 
 /// If no item is refused, `judge_text_keep_going` writes and returns what `judge_text` does.
-pub fn keep_going_keeps_judgements()
+pub fn keep_going_changes_nothing_without_refusals()
     ensures { KeepsJudgements }
 {}
 

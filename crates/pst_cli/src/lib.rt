@@ -38,18 +38,18 @@ mod status;
 mod stream;
 
 pub use absent::{Absence, refuse_text};
-pub use campaign::{campaign_text, run_campaign_and_take_notes};
+pub use campaign::{campaign_text, run_and_report_campaign_taking_notes};
 pub use check::check_text;
-pub use chosen::Chosen;
+pub use chosen::ChosenItems;
 pub use compiled::CompiledModelAndTrees;
 pub use convert::{ItemForm, convert_text};
 pub use counts::ItemResultCounts;
 pub use explain::{ExplainOptions, explain_text, explain_with_progress};
-pub use explained_run::explanation_of_run_unless_explained;
+pub use explained_run::compile_model_and_explain_failed_run;
 pub use failure_page::{CampaignFailures, campaign_failures_html_page};
 pub use form::ExplanationForm;
-pub use generate::generate_text;
-pub use graph::graph_text;
+pub use generate::generate_and_write_cases_of_input;
+pub use graph::write_search_graph_of_item;
 pub use items::count_items_of_input;
 pub use judge::{judge_file, judge_file_with_progress, judge_text};
 pub use judged::JudgedFile;
@@ -59,17 +59,20 @@ pub use keep::{
 };
 pub use known::{KnownSystem, is_known_system};
 pub use laws::{
-    check_and_judge_outputs_are_unique, keep_going_keeps_judgements,
+    check_and_judge_outputs_are_unique, keep_going_changes_nothing_without_refusals,
     stream_verdicts_are_file_verdicts,
 };
 pub use list::list_text;
 pub use notes::CampaignNotes;
-pub use objects::{MEMORY_OBJECT, check_json, judge_json, judge_json_with_progress};
+pub use objects::{
+    MEMORY_OBJECT, check_with_json_output, judge_with_json_output,
+    judge_with_json_output_and_progress,
+};
 pub use pst_rejudge::ProgressCounter;
-pub use refused_lines::RefusedLines;
-pub use repeat::run_repeatedly;
-pub use run::{run_text, run_text_with_progress};
-pub use run_objects::run_json;
+pub use refused_lines::RefusedLineReceiver;
+pub use repeat::drive_input_items_repeatedly_and_report;
+pub use run::{run_text, run_text_with_counts_and_progress};
+pub use run_objects::run_with_json_output;
 pub use shown::Shown;
 pub use status::Status;
 pub use stream::judge_stream;

@@ -4,7 +4,7 @@ ghost use Rattle.pst_cli.specs.Output.{failure_line, failure_lines, item_line, i
 ghost use Rattle.pst_cli.specs.Rows.{IsRow, first_of};
 
 use crate::judge::is_explained_or_valid;
-use crate::sharing::may_share_judged;
+use crate::sharing::prove_judgements_are_sync;
 use crate::shown::Shown;
 use pst_judge::Judged;
 use rayon::prelude::*;
@@ -39,7 +39,7 @@ pub fn item_verdict_line(
 }
 
 /// How many of `count` items come before `row`, counted from 0.
-fn items_before_block(row: usize, count: usize) -> usize
+fn count_items_before_row(row: usize, count: usize) -> usize
     ensures { result ≡ first_of row count }
 {
     row.saturating_mul(ROW).min(count)
@@ -51,7 +51,10 @@ fn verdict_lines_of_row(alloc: Global, all: &[Judged], row: usize) -> Result<Str
 {
     let mut text = String::new(alloc);
     let count = all.len();
-    for index in items_before_block(row, count)..items_before_block(row.saturating_add(1), count) {
+    for index in count_items_before_row(row, count)..count_items_before_row(
+        row.saturating_add(1),
+        count,
+    ) {
         add_item_verdict_line(&mut text, index + 1, &all[index])?;
     }
     Ok(text)
@@ -65,7 +68,7 @@ fn item_verdict_lines<R: Threads + Sync>(
 ) -> Result<String, AllocError>
     ensures { IfOk result (λ text. string_bytes text ≡ item_lines 1 all.now) }
 {
-    may_share_judged();
+    prove_judgements_are_sync();
     let rows = all.len() / ROW + 1;
     let lines = (0..rows)
         .into_par_iter()

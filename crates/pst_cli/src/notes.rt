@@ -7,8 +7,9 @@ use pst_case::{Case, History};
 use pst_ledger::{Closed, Entry};
 use pst_rejudge::Field;
 use pst_report::{
-    NumberedFailure, add_losses_and_least_failure, distinct_failures, first_campaign_report_fields,
-    first_failed_trial, first_trial_with_generation_fault, status_of_early_ended_campaign,
+    NumberedFailure, add_lost_trials_and_first_failure, campaign_report_fields_before_losses,
+    distinct_failures, first_failed_trial, first_trial_with_generation_fault,
+    status_of_stoppable_campaign,
 };
 use pst_trial::{Plan, Record, TrialOutcome};
 use std::alloc::{AllocError, Global};
@@ -55,7 +56,7 @@ fn count_commands(case: &Case) -> usize {
 }
 
 /// How many commands the shrunk case of a trial has, if the trial failed.
-fn count_commands_of_failure(record: &Record) -> Option<usize> {
+fn count_shrunk_commands_if_trial_failed(record: &Record) -> Option<usize> {
     match record.outcome() {
         TrialOutcome::Failed { shrunk, .. } => Some(count_commands(&shrunk.last.case)),
         TrialOutcome::GenFaulted(_) | TrialOutcome::Passed { .. } => None,
@@ -63,7 +64,7 @@ fn count_commands_of_failure(record: &Record) -> Option<usize> {
 }
 
 /// The first of the failures with the fewest commands, if these are fewer than `commands_of_first`.
-fn shortest_failure_below(
+fn shortest_failure_if_shorter_than_first(
     entries: &[Entry<Record>],
     commands_of_first: usize,
 ) -> Option<ShorterFailure> {
@@ -71,7 +72,7 @@ fn shortest_failure_below(
     let mut shorter = None;
     for (number, entry) in entries.iter().enumerate() {
         if let Entry::Done(record) = entry
-            && let Some(commands) = count_commands_of_failure(record)
+            && let Some(commands) = count_shrunk_commands_if_trial_failed(record)
             && commands < fewest
         {
             fewest = commands;
@@ -93,24 +94,24 @@ fn campaign_report_fields(
 ) -> Result<Vec<Field>, AllocError>
     requires { AreOf plan.now 0 closed.now }
 {
-    let mut fields = first_campaign_report_fields(
+    let mut fields = campaign_report_fields_before_losses(
         alloc,
         plan,
         closed,
-        status_of_early_ended_campaign(closed),
+        status_of_stoppable_campaign(closed),
     )?;
-    add_losses_and_least_failure(alloc, &mut fields, plan, closed.entries())?;
+    add_lost_trials_and_first_failure(alloc, &mut fields, plan, closed.entries())?;
     Ok(fields)
 }
 
 impl CampaignNotes {
     /// The notes before the first trial.
     pub fn new() -> CampaignNotes {
-        CampaignNotes::keeping(false, false)
+        CampaignNotes::new_with_choice_to_keep_failures(false, false)
     }
 
     /// The notes before the first trial, which keep the failures for a page and for files, if they are wanted.
-    pub fn keeping(for_page: bool, for_files: bool) -> CampaignNotes {
+    pub fn new_with_choice_to_keep_failures(for_page: bool, for_files: bool) -> CampaignNotes {
         CampaignNotes {
             least: None,
             shorter: None,
@@ -138,7 +139,7 @@ impl CampaignNotes {
         if let Some((number, _)) = first_trial_with_generation_fault(entries) {
             self.first_genfault = Some(number);
         }
-        self.add_first_failure(alloc, plan, entries)
+        self.add_first_and_shorter_failure(alloc, plan, entries)
     }
 
     /// Keeps the failures for a page and for files, if they are wanted.
@@ -149,7 +150,9 @@ impl CampaignNotes {
         entries: &[Entry<Record>],
     ) -> Result<(), AllocError> {
         if self.for_page {
-            self.explained = Some(CampaignFailures::from_entries(alloc, plan, entries)?);
+            self.explained = Some(CampaignFailures::from_first_distinct_failures(
+                alloc, plan, entries,
+            )?);
         }
         if self.for_files {
             self.saved = Some(distinct_failures(alloc, entries)?);
@@ -158,7 +161,7 @@ impl CampaignNotes {
     }
 
     /// Notes what the first failure was shrunk to, and the first of those with the fewest commands.
-    fn add_first_failure(
+    fn add_first_and_shorter_failure(
         &mut self,
         alloc: Global,
         plan: &Plan,
@@ -170,7 +173,10 @@ impl CampaignNotes {
             let last = &shrunk.last;
             let case = last.case.copy(alloc)?;
             self.least = Some((case, last.history.history.copy(alloc)?));
-            self.shorter = shortest_failure_below(entries, count_commands(&last.case));
+            self.shorter = shortest_failure_if_shorter_than_first(
+                entries,
+                count_commands(&last.case),
+            );
         }
         Ok(())
     }

@@ -16,21 +16,20 @@ ghost use Rattle.pst_cli.specs.declared.status.Status.TheVariants.{Refused};
 ghost use Rattle.pst_rejudge.specs.Objects.{object_line};
 ghost use Rattle.pst_rejudge.specs.Verdicts.{accepted_fields};
 
-use crate::compiled::compile_model_of_input;
 use crate::keep::{
-    FileWithItemResults, is_result_explained_or_valid, worst_status_of_item_results,
+    FileWithItemResults, is_result_explained_or_valid, judge_each_item_of_input,
+    worst_status_of_item_results,
 };
 use crate::output::{Output, write_with_status_or_lost};
-use crate::sharing::may_share_compiled;
 use crate::shown::Shown;
 use crate::status::Status;
 use pst_model::Typed;
 use pst_rejudge::{
     ItemResult, ProgressCounter, accepted_model_fields, json_object_line, judged_item_fields,
-    read_and_judge_each_tree, refused_item_fields, refused_model_fields,
+    refused_item_fields, refused_model_fields,
 };
 use pst_sexpr::Sink;
-use pst_typing::{Refusal, load, model_name, trees_after_model};
+use pst_typing::{Refusal, load, model_name};
 use std::alloc::{AllocError, Global};
 use std::thread::Threads;
 
@@ -110,25 +109,15 @@ fn json_output_of_judge_command<R: Threads + Sync>(
     ensures held { IfOk result (λ r. IfSome r.1 (λ answered. HoldsAnswers input.now answered.file.compiled
         answered.file.trees.items answered.answers.items)) }
 {
-    let file = match compile_model_of_input(alloc, input)? {
-        Ok(file) => file,
+    let answered = match judge_each_item_of_input(rt, alloc, input, steps)? {
+        Ok(answered) => answered,
         Err(refusal) => return Ok((output_of_refusal_json_object(alloc, &refusal)?, None)),
     };
-    let items = trees_after_model(file.trees.as_slice());
-    may_share_compiled();
-    steps.set_total(items.len());
-    let answers = read_and_judge_each_tree(
-        rt,
-        &file.compiled,
-        alloc,
-        file.compiled.typed(),
-        items,
-        steps,
-    )?;
-    let text = shown_item_json_objects(alloc, shown, answers.as_slice())?;
-    let status = worst_status_of_item_results(answers.as_slice());
+    let answers = answered.answers.as_slice();
+    let text = shown_item_json_objects(alloc, shown, answers)?;
+    let status = worst_status_of_item_results(answers);
     let output = Output { text, status };
-    Ok((output, Some(FileWithItemResults { file, answers })))
+    Ok((output, Some(answered)))
 }
 
 /// Judges each item after the model at the start of the input, several at once, and writes a line with an object for
@@ -139,7 +128,7 @@ fn json_output_of_judge_command<R: Threads + Sync>(
 ///
 /// The status is `Refused` if an item or the model is refused, else `Failed` if an item is not explained or not valid,
 /// else `Accepted`; `Lost` if an allocation or the writer failed.
-pub fn judge_json<W: Sink, R: Threads + Sync>(
+pub fn judge_with_json_output<W: Sink, R: Threads + Sync>(
     rt: &R,
     alloc: Global,
     input: &[u8],
@@ -152,11 +141,11 @@ pub fn judge_json<W: Sink, R: Threads + Sync>(
     ensures held { IfSome result.1 (λ answered. HoldsAnswers input.now answered.file.compiled
         answered.file.trees.items answered.answers.items) }
 {
-    judge_json_with_progress(rt, alloc, input, shown, &ProgressCounter::new(), sink)
+    judge_with_json_output_and_progress(rt, alloc, input, shown, &ProgressCounter::new(), sink)
 }
 
-/// Does what [`judge_json`] does, and counts the items that are judged in `steps`.
-pub fn judge_json_with_progress<W: Sink, R: Threads + Sync>(
+/// Does what [`judge_with_json_output`] does, and counts the items that are judged in `steps`.
+pub fn judge_with_json_output_and_progress<W: Sink, R: Threads + Sync>(
     rt: &R,
     alloc: Global,
     input: &[u8],
@@ -222,7 +211,12 @@ fn json_output_of_check_command(
 /// Writes a line with the object of the well-typed model at the start of the input, or else of its first refusal, and
 /// then the notices, which are lines of objects. Returns the status. If an allocation fails, writes [`MEMORY_OBJECT`]
 /// alone.
-pub fn check_json<W: Sink>(alloc: Global, input: &[u8], notices: &[u8], sink: &mut W) -> Status
+pub fn check_with_json_output<W: Sink>(
+    alloc: Global,
+    input: &[u8],
+    notices: &[u8],
+    sink: &mut W,
+) -> Status
     requires { W.broken sink.old ≡ false }
     ensures { PrintsElse memory_object (IsCheckJson input.now notices.now)
         (W.taken sink.old) (W.taken sink.new) (W.broken sink.new) result }

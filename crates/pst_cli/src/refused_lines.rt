@@ -4,9 +4,9 @@ use pst_rejudge::ItemResult;
 use std::alloc::{AllocError, Global};
 
 /// One who takes the refused lines of a stream as they come. It changes nothing of what is written for them.
-pub trait RefusedLines {
+pub trait RefusedLineReceiver {
     /// Returns whether it takes further lines.
-    fn takes_more(&self) -> bool;
+    fn takes_more_lines(&self) -> bool;
 
     /// Takes a refused line, without its end, once its verdict is written. `number` counts the lines of the stream
     /// from 1. A line that is longer than a file may be is cut, but stays longer than that.
@@ -25,12 +25,12 @@ pub(crate) struct EndedLines<'a> {
 }
 
 /// Returns a copy of the beginning of a line that has not ended, if `lines` takes further lines.
-pub(crate) fn copy_begun_line_if_wanted<L: RefusedLines>(
+pub(crate) fn copy_begun_line_if_wanted<L: RefusedLineReceiver>(
     alloc: Global,
     lines: &L,
     begun: &[u8],
 ) -> Result<Option<Vec<u8>>, AllocError> {
-    if !lines.takes_more() {
+    if !lines.takes_more_lines() {
         return Ok(None);
     }
     let mut copy = Vec::new(alloc);
@@ -49,7 +49,7 @@ fn place_of_newline_or_end(bytes: &[u8], from: usize) -> usize {
 }
 
 /// Hands over the refused lines among `ended`. `begun` is the beginning of the first line.
-fn hand_over_refused_lines<L: RefusedLines>(
+fn hand_over_refused_lines<L: RefusedLineReceiver>(
     lines: &mut L,
     begun: Vec<u8>,
     ended: EndedLines<'_>,
@@ -72,7 +72,7 @@ fn hand_over_refused_lines<L: RefusedLines>(
 
 /// Hands over the refused lines among `ended`, if there are some. `begun` is the beginning of the first line, if
 /// `lines` takes further lines. Hands over none if an allocation fails.
-pub(crate) fn hand_over_refused_lines_if_wanted<L: RefusedLines>(
+pub(crate) fn hand_over_refused_lines_if_wanted<L: RefusedLineReceiver>(
     lines: &mut L,
     begun: Result<Option<Vec<u8>>, AllocError>,
     ended: EndedLines<'_>,

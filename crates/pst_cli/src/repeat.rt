@@ -34,7 +34,7 @@ fn is_accepted(status: Status) -> bool
 }
 
 /// The report to display for a case after one more drive: the first that is not accepted, or else the last.
-fn report_to_show_after_drive(shown: Option<Output>, output: Output) -> Option<Output>
+fn first_failed_or_latest_report(shown: Option<Output>, output: Output) -> Option<Output>
     ensures { result ≡ shown_after shown output }
 {
     match shown {
@@ -50,7 +50,7 @@ fn report_to_show_after_drive(shown: Option<Output>, output: Output) -> Option<O
 }
 
 /// How many drives failed after one more with `status`.
-fn failed_drives_after_drive(failed: u32, status: Status) -> u32
+fn count_drive_if_failed(failed: u32, status: Status) -> u32
     requires { failed + 1 < 2 ^ 32 }
     ensures { result ≡ (if is_accepted status then failed else failed + 1) }
 {
@@ -62,7 +62,7 @@ fn failed_drives_after_drive(failed: u32, status: Status) -> u32
 }
 
 /// The counts of the displayed report after one more drive: `drive` if no earlier drive failed, else `own`.
-pub(crate) fn counts_to_show_after_drive(
+pub(crate) fn first_failed_or_latest_drive_counts(
     failed: u32,
     own: ItemResultCounts,
     drive: ItemResultCounts,
@@ -89,7 +89,7 @@ fn append_line_of_drive_counts(
 }
 
 /// Drives a valid case `repeats` times, or until a drive is lost, and returns the report of its item.
-fn drive_and_report_case_repeatedly<R: Threads + Wait>(
+fn drive_case_repeatedly_and_report_once<R: Threads + Wait>(
     rt: &R,
     alloc: Global,
     compiled: &Compiled,
@@ -118,14 +118,14 @@ fn drive_and_report_case_repeatedly<R: Threads + Wait>(
             rt, alloc, compiled, system, number, copy, &mut drive,
         )?;
         if output.status == Status::Lost {
-            counts.add_counts(drive);
+            counts.add_counts_and_first_broken_run(drive);
             return Ok(output);
         }
-        own = counts_to_show_after_drive(failed, own, drive);
-        failed = failed_drives_after_drive(failed, output.status);
-        shown = report_to_show_after_drive(shown, output);
+        own = first_failed_or_latest_drive_counts(failed, own, drive);
+        failed = count_drive_if_failed(failed, output.status);
+        shown = first_failed_or_latest_report(shown, output);
     }
-    counts.add_counts(own);
+    counts.add_counts_and_first_broken_run(own);
     match shown {
         Some(shown) => append_line_of_drive_counts(alloc, number, shown, repeats, failed),
         None => unreachable!(),
@@ -133,7 +133,7 @@ fn drive_and_report_case_repeatedly<R: Threads + Wait>(
 }
 
 /// The report of an item.
-fn drive_and_report_item_repeatedly<R: Threads + Wait>(
+fn drive_item_repeatedly_or_report_invalid<R: Threads + Wait>(
     rt: &R,
     alloc: Global,
     compiled: &Compiled,
@@ -154,7 +154,7 @@ fn drive_and_report_item_repeatedly<R: Threads + Wait>(
     let copy = shaped.copy(alloc, compiled.typed().source())?;
     match valid(compiled, alloc, copy) {
         Ok(valid) => {
-            drive_and_report_case_repeatedly(
+            drive_case_repeatedly_and_report_once(
                 rt, alloc, compiled, system, number, &valid, repeats, counts,
             )
         }
@@ -167,7 +167,7 @@ fn drive_and_report_item_repeatedly<R: Threads + Wait>(
 }
 
 /// The reports of all items, numbered from 1. `steps` counts the items.
-fn drive_and_report_items_repeatedly<R: Threads + Wait>(
+fn drive_items_repeatedly_and_report_each<R: Threads + Wait>(
     rt: &R,
     alloc: Global,
     compiled: &Compiled,
@@ -186,9 +186,9 @@ fn drive_and_report_items_repeatedly<R: Threads + Wait>(
         (reset_fails system.new) (reset_fails system.old) }
 {
     let mut reports = Vec::new(alloc);
-    steps.set_total(runs.len());
+    steps.restart_with_total(runs.len());
     for (index, run) in runs.iter().enumerate() {
-        let report = drive_and_report_item_repeatedly(
+        let report = drive_item_repeatedly_or_report_invalid(
             rt,
             alloc,
             compiled,
@@ -205,7 +205,7 @@ fn drive_and_report_items_repeatedly<R: Threads + Wait>(
 }
 
 /// The reports of all items, one after another, and the worst of their statuses.
-fn drive_and_join_all_reports<R: Threads + Wait>(
+fn drive_items_repeatedly_and_join_reports<R: Threads + Wait>(
     rt: &R,
     alloc: Global,
     compiled: &Compiled,
@@ -223,7 +223,7 @@ fn drive_and_join_all_reports<R: Threads + Wait>(
     ensures kept { AreKept (answers system.new) (answers system.old) (fails system.new) (fails system.old)
         (reset_fails system.new) (reset_fails system.old) }
 {
-    let reports = drive_and_report_items_repeatedly(
+    let reports = drive_items_repeatedly_and_report_each(
         rt, alloc, compiled, system, runs, repeats, counts, steps,
     )?;
     joined_outputs_with_worst_status(alloc, Status::Accepted, reports.as_slice())
@@ -253,7 +253,7 @@ fn read_and_drive_items_repeatedly<R: Threads + Wait>(
     let items = trees_after_model(file.trees.as_slice());
     match read_runs_of_trees(alloc, file.compiled.typed(), items)? {
         Ok(runs) => {
-            drive_and_join_all_reports(
+            drive_items_repeatedly_and_join_reports(
                 rt,
                 alloc,
                 &file.compiled,
@@ -275,7 +275,7 @@ fn read_and_drive_items_repeatedly<R: Threads + Wait>(
 /// `NUMBER lost KIND` alone and drives the case no more. Refusals and the status are those of `run_text`.
 ///
 /// Counts each item once, by its displayed report; `steps` counts the items that are driven.
-pub fn run_repeatedly<W: Sink, R: Threads + Wait>(
+pub fn drive_input_items_repeatedly_and_report<W: Sink, R: Threads + Wait>(
     rt: &R,
     alloc: Global,
     input: &[u8],

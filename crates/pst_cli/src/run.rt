@@ -43,7 +43,11 @@ fn write_tree_line<W: Sink>(tree: &Tree, sink: &mut W) -> Result<(), WriteFailed
 }
 
 /// The tree of a run in its one spelling, and a line end.
-pub(crate) fn run_tree_line(alloc: Global, typed: &Typed, run: &Run) -> Result<Vec<u8>, AllocError>
+pub(crate) fn tree_line_of_run(
+    alloc: Global,
+    typed: &Typed,
+    run: &Run,
+) -> Result<Vec<u8>, AllocError>
     requires { IsLawful typed.now run.now }
     ensures { IfOk result (λ line. line.items ≡ line_of (run_form typed.now run.now)) }
 {
@@ -103,7 +107,7 @@ pub(crate) fn drive_and_report_valid_case<R: Threads + Wait>(
 }
 
 /// The report of an item.
-fn drive_and_report_item<R: Threads + Wait>(
+fn drive_item_once_or_report_invalid<R: Threads + Wait>(
     rt: &R,
     alloc: Global,
     compiled: &Compiled,
@@ -151,9 +155,9 @@ fn drive_and_report_items<R: Threads + Wait>(
 {
     let mut text = Vec::new(alloc);
     let mut status = Status::Accepted;
-    steps.set_total(runs.len());
+    steps.restart_with_total(runs.len());
     for (index, run) in runs.iter().enumerate() {
-        let output = drive_and_report_item(
+        let output = drive_item_once_or_report_invalid(
             rt,
             alloc,
             compiled,
@@ -226,7 +230,7 @@ pub fn run_text<W: Sink, R: Threads + Wait>(
     ensures kept { AreKept (answers system.new) (answers system.old) (fails system.new) (fails system.old)
         (reset_fails system.new) (reset_fails system.old) }
 {
-    run_text_with_progress(
+    run_text_with_counts_and_progress(
         rt,
         alloc,
         input,
@@ -239,7 +243,7 @@ pub fn run_text<W: Sink, R: Threads + Wait>(
 
 /// Does what [`run_text`] does, counts the items that are driven in `steps`, and adds the result of each reported item
 /// to `counts`. If an allocation outside the driver fails, sets all counts to zero.
-pub fn run_text_with_progress<W: Sink, R: Threads + Wait>(
+pub fn run_text_with_counts_and_progress<W: Sink, R: Threads + Wait>(
     rt: &R,
     alloc: Global,
     input: &[u8],

@@ -8,13 +8,13 @@ use crate::item_report::{ItemReport, drive_case_and_report_item, status_of_item_
 use crate::judge::read_runs_of_trees;
 use crate::objects::{MEMORY_OBJECT, output_of_refusal_json_object};
 use crate::output::{Output, write_with_status_or_lost};
-use crate::repeat::counts_to_show_after_drive;
+use crate::repeat::first_failed_or_latest_drive_counts;
 use crate::status::Status;
 use pst_case::{Run, Shaped};
 use pst_compile::Compiled;
 use pst_judge::{Judged, Valid, Why, valid};
 use pst_rejudge::{
-    Field, Name, ProgressCounter, add_number_field, add_text_field, json_object_line,
+    Field, FieldName, ProgressCounter, add_number_field, add_text_field, json_object_line,
     judged_item_fields, refused_item_fields,
 };
 use pst_runs::RunFault;
@@ -42,7 +42,7 @@ struct ReportWithDriveCounts {
 
 /// The displayed report of a case after one more drive: the first that failed, or else the last. `failed` drives failed
 /// before.
-fn report_to_show_after_drive(
+fn first_failed_or_latest_report(
     shown: Option<ItemReport>,
     failed: u32,
     report: ItemReport,
@@ -77,18 +77,18 @@ fn drive_valid_case_repeatedly<R: Threads + Wait>(
             rt, alloc, compiled, system, number, copy, &mut drive,
         )?;
         if let ItemReport::Lost(_) = report {
-            counts.add_counts(drive);
+            counts.add_counts_and_first_broken_run(drive);
             return Ok(ReportWithDriveCounts {
                 report,
                 drives: None,
             });
         }
         let has_failed = status_of_item_report(&report) != Status::Accepted;
-        own = counts_to_show_after_drive(failed, own, drive);
-        shown = Some(report_to_show_after_drive(shown, failed, report));
+        own = first_failed_or_latest_drive_counts(failed, own, drive);
+        shown = Some(first_failed_or_latest_report(shown, failed, report));
         failed = failed.saturating_add(u32::from(has_failed));
     }
-    counts.add_counts(own);
+    counts.add_counts_and_first_broken_run(own);
     match shown {
         Some(report) => Ok(ReportWithDriveCounts {
             report,
@@ -129,7 +129,7 @@ fn drive_valid_case_as_often_as_asked<R: Threads + Wait>(
 
 /// Counts a case that is not valid, and returns the report of its item. If `why` is `Why::NoMemory`, counts the case as
 /// lost, and returns `AllocError`.
-fn report_invalid_case(
+fn count_and_report_invalid_case(
     why: Why,
     counts: &mut ItemResultCounts,
 ) -> Result<ReportWithDriveCounts, AllocError> {
@@ -144,7 +144,7 @@ fn report_invalid_case(
 }
 
 /// The report of an item.
-fn drive_and_report_any_case<R: Threads + Wait>(
+fn drive_case_or_report_invalid<R: Threads + Wait>(
     rt: &R,
     alloc: Global,
     compiled: &Compiled,
@@ -161,7 +161,7 @@ fn drive_and_report_any_case<R: Threads + Wait>(
         Ok(valid) => drive_valid_case_as_often_as_asked(
             rt, alloc, compiled, system, number, valid, repeats, counts,
         ),
-        Err(refused) => report_invalid_case(refused.1, counts),
+        Err(refused) => count_and_report_invalid_case(refused.1, counts),
     }
 }
 
@@ -171,7 +171,7 @@ fn add_run_tree_field(fields: &mut Vec<Field>, line: Vec<u8>) -> Result<(), Allo
     let _line_end = line.pop();
     match String::from_utf8(line) {
         Ok(run) => {
-            fields.push(Field::Words(Name::Run, Text::from_string(run)))?;
+            fields.push(Field::Words(FieldName::Run, Text::from_string(run)))?;
             Ok(())
         }
         Err(_) => Err(AllocError),
@@ -193,9 +193,9 @@ fn item_report_fields(
         ItemReport::Invalid(why) => judged_item_fields(alloc, number, &Judged::Invalid(why)),
         ItemReport::Lost(fault) => {
             let mut fields = Vec::new(alloc);
-            add_number_field(&mut fields, Name::Item, number as u64)?;
-            add_text_field(alloc, &mut fields, Name::Verdict, "lost")?;
-            add_text_field(alloc, &mut fields, Name::Fault, fault.name())?;
+            add_number_field(&mut fields, FieldName::Item, number as u64)?;
+            add_text_field(alloc, &mut fields, FieldName::Verdict, "lost")?;
+            add_text_field(alloc, &mut fields, FieldName::Fault, fault.name())?;
             Ok(fields)
         }
     }
@@ -210,8 +210,8 @@ fn item_report_json_line(
     let ReportWithDriveCounts { report, drives } = reported;
     let mut fields = item_report_fields(alloc, number, report)?;
     if let Some(drives) = drives {
-        add_number_field(&mut fields, Name::Drives, drives.all as u64)?;
-        add_number_field(&mut fields, Name::Failed, drives.failed as u64)?;
+        add_number_field(&mut fields, FieldName::Drives, drives.all as u64)?;
+        add_number_field(&mut fields, FieldName::Failed, drives.failed as u64)?;
     }
     json_object_line(alloc, fields.as_slice())
 }
@@ -231,10 +231,10 @@ fn drive_items_and_join_json_objects<R: Threads + Wait>(
 {
     let mut text = Vec::new(alloc);
     let mut status = Status::Accepted;
-    steps.set_total(runs.len());
+    steps.restart_with_total(runs.len());
     for (index, run) in runs.iter().enumerate() {
         let number = index + 1;
-        let reported = drive_and_report_any_case(
+        let reported = drive_case_or_report_invalid(
             rt,
             alloc,
             compiled,
@@ -294,11 +294,11 @@ fn read_and_drive_items_for_json<R: Threads + Wait>(
     }
 }
 
-/// Drives the case of each item as `run_text` does, or with `repeats` as `run_repeatedly` does, and writes an object for each, on
-/// a line: its verdict, as `judge_json` writes it, and its run as a tree; or why its case is not valid; or that it was lost, and
+/// Drives the case of each item as `run_text` does, or with `repeats` as `drive_input_items_repeatedly_and_report` does, and writes an object for each, on
+/// a line: its verdict, as `judge_with_json_output` writes it, and its run as a tree; or why its case is not valid; or that it was lost, and
 /// why. With `repeats` the object also has the number of drives and of those that failed. A refusal is one object. The status
 /// and the counts are those of these functions; `steps` counts the items that are driven. If an allocation fails, writes the object of that alone.
-pub fn run_json<W: Sink, R: Threads + Wait>(
+pub fn run_with_json_output<W: Sink, R: Threads + Wait>(
     rt: &R,
     alloc: Global,
     input: &[u8],

@@ -9,22 +9,22 @@ use pst_judge::Judged;
 use pst_model::Typed;
 
 /// Threads may share a `Sync` type.
-fn may_share<T: Sync>()
+fn prove_sync<T: Sync>()
     ensures { IsSync T.row }
 {}
 
 /// Threads may share compiled models.
-pub(crate) fn may_share_compiled()
+pub(crate) fn prove_compiled_models_are_sync()
     ensures { IsSync compiled_row }
 {
-    may_share::<Typed>();
-    may_share::<Code>();
-    may_share::<Compiled>()
+    prove_sync::<Typed>();
+    prove_sync::<Code>();
+    prove_sync::<Compiled>()
 }
 
 /// Threads may share judgements.
-pub(crate) fn may_share_judged()
+pub(crate) fn prove_judgements_are_sync()
     ensures { IsSync judged_row }
 {
-    may_share::<Judged>()
+    prove_sync::<Judged>()
 }

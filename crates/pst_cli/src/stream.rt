@@ -1,22 +1,21 @@
 //! `pst judge --stream`.
 ghost use Rattle.std.specs.Prelude.{◌≡◌, ◌+◌, ◌++◌, ℕ, List, Some, false, length, IfOk, MatchResult, OnOk, string_bytes};
-ghost use Rattle.pst_cli.specs.KeepingOn.{answer_lines, worst_status};
 ghost use Rattle.pst_cli.specs.Sending.{Prints};
 ghost use Rattle.pst_cli.specs.Streaming.{EndsBlock, EndsStream, cut_of};
 ghost use Rattle.pst_cli.specs.StreamOutput.{IsStreamOutput};
 
 use crate::compiled::compile_model_of_input;
 use crate::counts::ItemResultCounts;
-use crate::keep::{add_item_result_line, status_of_item_result};
+use crate::keep::{numbered_item_result_lines, worst_status_after_item_results};
 use crate::output::write_with_status_or_lost;
 use crate::refusal::refusal_output;
 use crate::refused_lines::{
-    EndedLines, RefusedLines, copy_begun_line_if_wanted, hand_over_refused_lines_if_wanted,
+    EndedLines, RefusedLineReceiver, copy_begun_line_if_wanted, hand_over_refused_lines_if_wanted,
 };
-use crate::sharing::may_share_compiled;
+use crate::sharing::prove_compiled_models_are_sync;
 use crate::status::Status;
 use pst_compile::Compiled;
-use pst_rejudge::{ItemResult, ProgressCounter, StreamFault, read_and_judge_block};
+use pst_rejudge::{ItemResult, ProgressCounter, StreamFault, read_once_and_judge_ended_lines};
 use pst_sexpr::{Sink, WriteFailed, put_all};
 use std::alloc::{AllocError, Global};
 use std::io::Read;
@@ -41,37 +40,6 @@ pub(crate) enum Cut {
 pub(crate) struct Written {
     pub count: usize,
     pub status: Status,
-}
-
-/// The lines of the answers, numbered from `count + 1` on.
-fn numbered_item_result_lines(
-    alloc: Global,
-    count: usize,
-    answers: &[ItemResult],
-) -> Result<String, AllocError>
-    ensures { IfOk result (λ text. string_bytes text ≡ answer_lines (count + 1) answers.now) }
-{
-    let mut text = String::new(alloc);
-    let mut number = count;
-    for answer in answers {
-        number = match number.checked_add(1) {
-            Some(number) => number,
-            None => return Err(AllocError),
-        };
-        add_item_result_line(alloc, &mut text, number, answer)?;
-    }
-    Ok(text)
-}
-
-/// The worst of `so_far` and the statuses of the answers.
-fn worst_status_after_item_results(so_far: Status, answers: &[ItemResult]) -> Status
-    ensures { result ≡ worst_status so_far answers.now }
-{
-    let mut status = so_far;
-    for answer in answers {
-        status = status.or_worse(status_of_item_result(answer));
-    }
-    status
 }
 
 /// Writes the lines of the answers to a block, after the lines so far.
@@ -117,7 +85,7 @@ fn cut_for_stream_fault(fault: StreamFault) -> Cut
 
 /// Writes the line of each item of the reader as it comes, and returns the worst of their statuses; or why the lines
 /// end before the reader does. `refused` gets the refused lines.
-fn judge_stream_and_write_lines<I: Read, W: Sink, R: Threads + Sync, L: RefusedLines>(
+fn judge_stream_and_write_lines<I: Read, W: Sink, R: Threads + Sync, L: RefusedLineReceiver>(
     rt: &R,
     alloc: Global,
     compiled: &Compiled,
@@ -134,7 +102,7 @@ fn judge_stream_and_write_lines<I: Read, W: Sink, R: Threads + Sync, L: RefusedL
     let Ok(mut buffer) = vec![in alloc; 0u8; BUFFER] else {
         return Err(Cut::NoMemory);
     };
-    may_share_compiled();
+    prove_compiled_models_are_sync();
     let mut kept = Vec::new(alloc);
     let mut written = Written {
         count: 0,
@@ -142,7 +110,7 @@ fn judge_stream_and_write_lines<I: Read, W: Sink, R: Threads + Sync, L: RefusedL
     };
     for _turn in 0..u64::MAX {
         let begun = copy_begun_line_if_wanted(alloc, refused, kept.as_slice());
-        let block = match read_and_judge_block(
+        let block = match read_once_and_judge_ended_lines(
             rt,
             compiled,
             alloc,
@@ -185,7 +153,7 @@ fn judge_stream_and_write_lines<I: Read, W: Sink, R: Threads + Sync, L: RefusedL
 /// alone. If the reader fails, writes `refused file` after the lines so far, with the status `Refused`. If an
 /// allocation fails, writes `refused memory` after them, with the status `Lost`. The status is also `Lost` if the
 /// writer fails.
-pub fn judge_stream<I: Read, W: Sink, R: Threads + Sync, L: RefusedLines>(
+pub fn judge_stream<I: Read, W: Sink, R: Threads + Sync, L: RefusedLineReceiver>(
     rt: &R,
     alloc: Global,
     input: &[u8],

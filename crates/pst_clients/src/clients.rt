@@ -7,7 +7,7 @@ use crate::answers::{ClientAnswer, client_answer_of_line};
 use crate::calls::client_call_line;
 use crate::connection::{ClientState, Connection, LostAnswer};
 use crate::hints::{hint_on_answer_of_wrong_type, hint_on_answer_without_value};
-use crate::notes::{BadLine, ClientId, NoteKind, Notes};
+use crate::notes::{BadlyAnsweredLine, ClientId, NoteKind, Notes};
 use pst_system::{CallFault, RealCall, System};
 use pst_value::{Items, Ty, Value};
 use std::alloc::{AllocError, Global};
@@ -62,7 +62,7 @@ fn has_client_in_state<I: Read + ReadAhead, O: Write>(
 
 /// Has the clients restarted that are known to have ended. If one process has them all, this waits until all
 /// are known to have ended, and is impossible once a pipe is closed.
-fn restart_ended_clients<I: Read + ReadAhead, O: Write>(
+fn restart_ended_clients_if_possible<I: Read + ReadAhead, O: Write>(
     connections: &mut Vec<Mutex<Connection<I, O>>>,
     is_shared: bool,
 ) {
@@ -123,7 +123,7 @@ impl<R: Wait + Files, I: Read + ReadAhead + Drop, O: Write + Drop> Clients<R, I,
     }
 
     /// Notes what went wrong with a line for a branch's client.
-    fn note_bad_line(
+    fn note_badly_answered_line(
         &self,
         branch: u32,
         kind: NoteKind,
@@ -131,13 +131,14 @@ impl<R: Wait + Files, I: Read + ReadAhead + Drop, O: Write + Drop> Clients<R, I,
         answer: &str,
         hint: &'static str,
     ) {
-        let wrong = BadLine {
+        let wrong = BadlyAnsweredLine {
             kind,
             line,
             answer,
             hint,
         };
-        self.notes.note_bad_line(self.client_id(branch), &wrong)
+        self.notes
+            .note_badly_answered_line(self.client_id(branch), &wrong)
     }
 
     /// Notes why a line was not answered.
@@ -150,7 +151,7 @@ impl<R: Wait + Files, I: Read + ReadAhead + Drop, O: Write + Drop> Clients<R, I,
             LostAnswer::TooLong => (NoteKind::NotAnswered, "the line is longer than 1 MiB"),
             LostAnswer::NoText => (NoteKind::NoValue, "bytes that are not UTF-8"),
             LostAnswer::MoreLines(first) => {
-                return self.note_bad_line(
+                return self.note_badly_answered_line(
                     branch,
                     NoteKind::MoreLines,
                     line,
@@ -160,25 +161,25 @@ impl<R: Wait + Files, I: Read + ReadAhead + Drop, O: Write + Drop> Clients<R, I,
             }
             LostAnswer::NoMemory => return,
         };
-        self.note_bad_line(branch, kind, line, why, "")
+        self.note_badly_answered_line(branch, kind, line, why, "")
     }
 
     /// The line with which a branch's client answers a line.
-    fn ask_client(&self, branch: u32, line: &[u8]) -> Result<String, LostAnswer> {
+    fn ask_client_and_track_wait(&self, branch: u32, line: &[u8]) -> Result<String, LostAnswer> {
         let Some(connection) = self.connections.get(branch as usize) else {
             return Err(LostAnswer::NoClient);
         };
         let client = self.client_id(branch);
-        self.notes.waits().begin(client, line);
+        self.notes.waits().begin_wait_for_answer(client, line);
         let answer = connection.lock(&self.rt).ask(line);
-        self.notes.waits().end(client);
+        self.notes.waits().end_wait_for_client(client);
         answer
     }
 
     /// Returns the line with which a branch's client answers `line`. If the client does not answer, it notes
     /// why.
     fn ask(&self, branch: u32, line: &[u8]) -> Result<String, CallFault> {
-        match self.ask_client(branch, line) {
+        match self.ask_client_and_track_wait(branch, line) {
             Ok(answer) => Ok(answer),
             Err(LostAnswer::NoMemory) => Err(CallFault::NoMemory),
             Err(lost) => {
@@ -198,12 +199,12 @@ impl<R: Wait + Files, I: Read + ReadAhead + Drop, O: Write + Drop> Clients<R, I,
             Ok(last) if !last.is_empty() => last.as_str(),
             _ => RESET,
         };
-        self.note_bad_line(branch, NoteKind::Stray, line.as_bytes(), text, STRAY_HINT)
+        self.note_badly_answered_line(branch, NoteKind::Stray, line.as_bytes(), text, STRAY_HINT)
     }
 
     /// Drops what a branch's client has printed that answers nothing, and notes it. Returns whether a line too
     /// many came after a call, so that answers since the last reset may be those of other calls.
-    fn drop_stray_lines_of_client(&self, branch: u32) -> bool {
+    fn drop_strays_and_tell_if_answers_doubtful(&self, branch: u32) -> bool {
         let Some(connection) = self.connections.get(branch as usize) else {
             return false;
         };
@@ -212,7 +213,7 @@ impl<R: Wait + Files, I: Read + ReadAhead + Drop, O: Write + Drop> Clients<R, I,
         let mut connection = connection.lock(&self.rt);
         let stray = connection.drop_unread_lines_and_return_first(&self.rt);
         let is_astray = connection.take_extra_line_flag();
-        self.notes.waits().end(client);
+        self.notes.waits().end_wait_for_client(client);
         if let Some(text) = stray {
             self.note_stray_line_of_client(branch, text.as_str());
         }
@@ -221,11 +222,11 @@ impl<R: Wait + Files, I: Read + ReadAhead + Drop, O: Write + Drop> Clients<R, I,
 
     /// Drops what clients have printed that answers nothing, and notes it. Returns whether a line too many came
     /// after a call.
-    fn drop_stray_lines_of_all_clients(&self) -> bool {
+    fn drop_all_strays_and_tell_if_doubtful(&self) -> bool {
         let mut is_astray = false;
         let mut branch = 0u32;
         for _ in 0..self.connections.len() {
-            if self.drop_stray_lines_of_client(branch) {
+            if self.drop_strays_and_tell_if_answers_doubtful(branch) {
                 is_astray = true;
             }
             branch = branch.saturating_add(1);
@@ -245,22 +246,22 @@ impl<R: Wait + Files, I: Read + ReadAhead + Drop, O: Write + Drop> Clients<R, I,
 
     /// Ends the reset of a branch's client. If the client answered as it did not before, this waits for another
     /// line, and if one comes the reset fails: the answer was that of an earlier line.
-    fn end_reset(&self, branch: u32, answer: String) -> Result<(), CallFault> {
+    fn finish_reset_with_answer(&self, branch: u32, answer: String) -> Result<(), CallFault> {
         if self.is_reset_answer_worth_a_wait(branch, answer.as_str()) {
             Parker::new().park_timeout(&self.rt, Duration::from_millis(LATE));
-            if self.drop_stray_lines_of_client(branch) {
+            if self.drop_strays_and_tell_if_answers_doubtful(branch) {
                 return Err(CallFault::Refused);
             }
         }
         if let Some(connection) = self.connections.get(branch as usize) {
-            connection.lock(&self.rt).end_reset(answer);
+            connection.lock(&self.rt).finish_reset_with_answer(answer);
         }
         Ok(())
     }
 
     /// Asks a branch's client for a reset after it gave no answer, once it is started again. One that printed
     /// several lines is not asked again.
-    fn retry_reset_after_lost_answer(
+    fn retry_reset_unless_extra_lines_came(
         &mut self,
         branch: u32,
         lost: &LostAnswer,
@@ -269,10 +270,10 @@ impl<R: Wait + Files, I: Read + ReadAhead + Drop, O: Write + Drop> Clients<R, I,
     {
         if let LostAnswer::MoreLines(_) = lost {
             self.note_lost_answer_of_client(branch, RESET.as_bytes(), lost);
-            let _ = self.drop_stray_lines_of_client(branch);
+            let _ = self.drop_strays_and_tell_if_answers_doubtful(branch);
             return Err(CallFault::Refused);
         }
-        restart_ended_clients(&mut self.connections, self.is_shared);
+        restart_ended_clients_if_possible(&mut self.connections, self.is_shared);
         self.ask(branch, RESET.as_bytes())
     }
 
@@ -281,19 +282,19 @@ impl<R: Wait + Files, I: Read + ReadAhead + Drop, O: Write + Drop> Clients<R, I,
         ensures { self.new.results ≡ self.old.results }
     {
         let line = RESET.as_bytes();
-        let answer = match self.ask_client(branch, line) {
+        let answer = match self.ask_client_and_track_wait(branch, line) {
             Ok(answer) => answer,
-            Err(lost) => self.retry_reset_after_lost_answer(branch, &lost)?,
+            Err(lost) => self.retry_reset_unless_extra_lines_came(branch, &lost)?,
         };
         if answer.as_bytes().starts_with(b"failed") {
-            self.note_bad_line(branch, NoteKind::Failed, line, answer.as_str(), "");
+            self.note_badly_answered_line(branch, NoteKind::Failed, line, answer.as_str(), "");
             return Err(CallFault::Refused);
         }
-        self.end_reset(branch, answer)
+        self.finish_reset_with_answer(branch, answer)
     }
 
     /// Notes an answer that has not the result type of its operation.
-    fn note_answer_if_misfit(
+    fn note_answer_if_of_wrong_type(
         &self,
         branch: u32,
         line: &[u8],
@@ -303,7 +304,7 @@ impl<R: Wait + Files, I: Read + ReadAhead + Drop, O: Write + Drop> Clients<R, I,
     ) {
         if let Some(ty) = ty {
             if !value.has_type(ty, &[], &[]) {
-                self.note_bad_line(
+                self.note_badly_answered_line(
                     branch,
                     NoteKind::Misfit,
                     line,
@@ -315,7 +316,11 @@ impl<R: Wait + Files, I: Read + ReadAhead + Drop, O: Write + Drop> Clients<R, I,
     }
 
     /// What a branch's client answers to a call.
-    fn call_client(&self, branch: u32, call: &RealCall) -> Result<Value, CallFault>
+    fn call_client_and_note_bad_answer(
+        &self,
+        branch: u32,
+        call: &RealCall,
+    ) -> Result<Value, CallFault>
         ensures { IfOk result (λ v. Answered self.now.results call.now v) }
     {
         let Ok(line) = client_call_line(self.alloc, call) else {
@@ -326,15 +331,15 @@ impl<R: Wait + Files, I: Read + ReadAhead + Drop, O: Write + Drop> Clients<R, I,
         let ty = self.results.get(call.op as usize);
         match client_answer_of_line(self.alloc, ty, text) {
             Ok(ClientAnswer::Value(value)) => {
-                self.note_answer_if_misfit(branch, line, text, &value, ty);
+                self.note_answer_if_of_wrong_type(branch, line, text, &value, ty);
                 Ok(value)
             }
             Ok(ClientAnswer::Failed) => {
-                self.note_bad_line(branch, NoteKind::Failed, line, text, "");
+                self.note_badly_answered_line(branch, NoteKind::Failed, line, text, "");
                 Err(CallFault::Refused)
             }
             Ok(ClientAnswer::NoValue) => {
-                self.note_bad_line(
+                self.note_badly_answered_line(
                     branch,
                     NoteKind::NoValue,
                     line,
@@ -362,10 +367,10 @@ impl<
     /// Restarts clients that ended, and then resets through each client in turn. It fails if a client printed a
     /// line too many since the last reset: what it answered since may be wrong.
     fn reset(&mut self) -> Result<(), CallFault> {
-        if self.drop_stray_lines_of_all_clients() {
+        if self.drop_all_strays_and_tell_if_doubtful() {
             return Err(CallFault::Refused);
         }
-        restart_ended_clients(&mut self.connections, self.is_shared);
+        restart_ended_clients_if_possible(&mut self.connections, self.is_shared);
         let mut branch = 0u32;
         for _ in 0..self.connections.len() {
             if let Err(fault) = self.reset_client(branch) {
@@ -379,10 +384,10 @@ impl<
     }
 
     fn call(&self, call: &RealCall) -> Result<Value, CallFault> {
-        self.call_client(0, call)
+        self.call_client_and_note_bad_answer(0, call)
     }
 
     fn call_from(&self, branch: u32, call: &RealCall) -> Result<Value, CallFault> {
-        self.call_client(branch, call)
+        self.call_client_and_note_bad_answer(branch, call)
     }
 }

@@ -3,7 +3,7 @@ ghost use Rattle.std.specs.Prelude.{◌≡◌, ◌≢◌, ◌≤◌, [], ◌∷�
 ghost use Rattle.std.specs.Io.KnownBytes.{Appends, Consumes};
 
 use crate::ahead::ReadAhead;
-use crate::printed::{LAST_LINE, Printed};
+use crate::printed::{LAST_LINE, PrintedByClient};
 use std::alloc::Global;
 use std::fs::OpenOptions;
 use std::io::{self, Read, Write};
@@ -121,7 +121,7 @@ impl<I: Read + ReadAhead, O: Write> Connection<I, O> {
 
     /// The same client, whose answers come from the pipe with this name. Lines that answer nothing are found
     /// only in a pipe that has a name.
-    pub fn at_pipe(mut self, name: String) -> Connection<I, O> {
+    pub fn with_answer_pipe_name(mut self, name: String) -> Connection<I, O> {
         self.pipe = Some(name);
         self
     }
@@ -132,7 +132,7 @@ impl<I: Read + ReadAhead, O: Write> Connection<I, O> {
     }
 
     /// Sends a line with its end.
-    fn send(&mut self, line: &[u8]) -> Result<(), LostAnswer>
+    fn send_client_line(&mut self, line: &[u8]) -> Result<(), LostAnswer>
         ensures sent { OnOk result (Appends (O.contents self.old.calls)
             (O.contents self.new.calls) line.now) }
         ensures same { self.new.answers ≡ self.old.answers }
@@ -147,7 +147,7 @@ impl<I: Read + ReadAhead, O: Write> Connection<I, O> {
     }
 
     /// The next line, unless the launcher says there that the client has ended.
-    fn receive(&mut self) -> Result<String, LostAnswer>
+    fn receive_line_or_client_end(&mut self) -> Result<String, LostAnswer>
         ensures received { IfOk result (λ text. Consumes (I.remaining self.old.answers)
             (I.remaining self.new.answers) (string_bytes text ++ 10 ∷ [])) }
         ensures same { self.new.calls ≡ self.old.calls }
@@ -177,7 +177,7 @@ impl<I: Read + ReadAhead, O: Write> Connection<I, O> {
     /// Whether bytes that the client printed have been read ahead. False if its answers come from no pipe with a name.
     /// What the launcher says of the client does not count.
     fn has_buffered_client_output(&self) -> bool {
-        match self.answers.next_ahead() {
+        match self.answers.next_byte_read_ahead() {
             Some(byte) => self.pipe.is_some() && byte != MARK as u8,
             None => false,
         }
@@ -185,7 +185,7 @@ impl<I: Read + ReadAhead, O: Write> Connection<I, O> {
 
     /// Sends a line with its end, and reads the line that answers it. Nothing is sent to a client that has ended.
     ///
-    /// `MoreLines`: with this line came another one. A line that comes later is found by `drop_printed`.
+    /// `MoreLines`: with this line came another one. A line that comes later is found by `drop_unread_lines_and_return_first`.
     pub fn ask(&mut self, line: &[u8]) -> Result<String, LostAnswer>
         ensures sent { OnOk result (Appends (O.contents self.old.calls)
             (O.contents self.new.calls) line.now) }
@@ -196,8 +196,8 @@ impl<I: Read + ReadAhead, O: Write> Connection<I, O> {
             return Err(LostAnswer::Closed);
         }
         self.is_asked = true;
-        self.send(line)?;
-        let text = self.receive()?;
+        self.send_client_line(line)?;
+        let text = self.receive_line_or_client_end()?;
         if self.has_buffered_client_output() {
             self.is_astray = true;
             return Err(LostAnswer::MoreLines(text));
@@ -217,12 +217,12 @@ impl<I: Read + ReadAhead, O: Write> Connection<I, O> {
     }
 
     /// Reads the lines up to the one that this program wrote.
-    fn read_to_end_mark_line(&mut self) -> Result<Printed, LostAnswer> {
-        let mut printed = Printed::new();
+    fn read_to_end_mark_line(&mut self) -> Result<PrintedByClient, LostAnswer> {
+        let mut printed = PrintedByClient::new();
         for _ in 0..u64::MAX {
             let line = read_line_of_client(self.alloc, &mut self.answers)?;
             let text = std::str::from_utf8(line.as_slice()).unwrap_or("no UTF-8");
-            if printed.record_line_or_mark(self.alloc, text).is_err() {
+            if printed.record_first_line_or_mark(self.alloc, text).is_err() {
                 return Err(LostAnswer::NoMemory);
             }
             if printed.is_whole {
@@ -270,7 +270,7 @@ impl<I: Read + ReadAhead, O: Write> Connection<I, O> {
     }
 
     /// Counts that a reset was answered and is done.
-    pub fn end_reset(&mut self, answer: String) {
+    pub fn finish_reset_with_answer(&mut self, answer: String) {
         if self.is_reset_answer_worth_a_wait(answer.as_str()) {
             self.waits = self.waits.saturating_sub(1);
         }
@@ -285,21 +285,21 @@ impl<I: Read + ReadAhead, O: Write> Connection<I, O> {
             if self.state != ClientState::Open {
                 return;
             }
-            let _ = self.receive();
+            let _ = self.receive_line_or_client_end();
         }
     }
 
     /// Asks the launcher to start a client again that has ended.
     pub fn ask_launcher_to_restart_ended_client(&mut self) {
         if self.state == ClientState::Ended {
-            let _ = self.send(REVIVE.as_bytes());
+            let _ = self.send_client_line(REVIVE.as_bytes());
         }
     }
 
     /// Waits until a client that has ended runs again.
     pub fn await_restart_of_ended_client(&mut self) {
         if self.state == ClientState::Ended {
-            if let Err(LostAnswer::Ended(_)) = self.receive() {
+            if let Err(LostAnswer::Ended(_)) = self.receive_line_or_client_end() {
                 self.state = ClientState::Open;
             }
         }

@@ -24,7 +24,7 @@ fn begins_like_value_with_parts(answer: &str) -> bool {
 }
 
 /// Whether a piece of a line has a number with a fraction or an exponent, or one of over 19 digits.
-fn has_number_of_other_kind(piece: &str) -> bool {
+fn has_fraction_exponent_or_long_number(piece: &str) -> bool {
     let mut digits: usize = 0;
     for byte in piece.as_bytes() {
         if byte.is_ascii_digit() {
@@ -42,12 +42,12 @@ fn has_number_of_other_kind(piece: &str) -> bool {
 }
 
 /// What to write in place of a part of a value. `piece` is a piece of the line outside of texts.
-fn hint_on_part_outside_texts(piece: &str) -> Option<&'static str> {
+fn hint_on_foreign_syntax_outside_texts(piece: &str) -> Option<&'static str> {
     if piece.contains("null") || piece.contains("None") {
         Some("; there is no null: an option is [] or [x] (docs/language.md, Patterns)")
     } else if piece.contains("True") || piece.contains("False") {
         Some(JSON_BOOL)
-    } else if has_number_of_other_kind(piece) {
+    } else if has_fraction_exponent_or_long_number(piece) {
         Some(NUMBER)
     } else if piece.contains("'") {
         Some(QUOTES)
@@ -58,11 +58,11 @@ fn hint_on_part_outside_texts(piece: &str) -> Option<&'static str> {
 
 /// What to mend in the first part of a value with parts that is no JSON, or that no value has. Texts begin and end at each
 /// double quote.
-fn hint_on_first_bad_part(answer: &str) -> &'static str {
+fn hint_on_first_foreign_syntax(answer: &str) -> &'static str {
     let mut is_text = false;
     for piece in answer.split('"') {
         if !is_text {
-            if let Some(hint) = hint_on_part_outside_texts(piece) {
+            if let Some(hint) = hint_on_foreign_syntax_outside_texts(piece) {
                 return hint;
             }
         }
@@ -80,14 +80,14 @@ pub(crate) fn hint_on_answer_without_value(answer: &str, ty: Option<&Ty>) -> &'s
         "" => "(an empty line)",
         "True" | "False" => JSON_BOOL,
         number if begins_like_json_number(number) => NUMBER,
-        value if begins_like_value_with_parts(value) => hint_on_first_bad_part(value),
+        value if begins_like_value_with_parts(value) => hint_on_first_foreign_syntax(value),
         word if matches!(ty, Some(Ty::Text)) && !word.starts_with("\"") => QUOTES,
         _ => "",
     }
 }
 
 /// Whether a line of JSON has a text with a character that is no printable ASCII, plain or as an escape.
-fn has_text_of_other_characters(answer: &str) -> bool {
+fn has_character_beyond_printable_ascii(answer: &str) -> bool {
     let mut is_escaped = false;
     for byte in answer.as_bytes() {
         let byte = *byte;
@@ -123,7 +123,7 @@ fn may_any_hold_text(types: &[Ty]) -> bool {
 }
 
 /// What to answer where a map with keys of a type is wanted.
-fn hint_on_map(keys: KeyTy) -> &'static str {
+fn hint_on_client_map_answer(keys: KeyTy) -> &'static str {
     match keys {
         KeyTy::Int =>
             "; a map with int keys is an object such as {\"1\":..}, with values of its type",
@@ -142,12 +142,12 @@ pub(crate) fn hint_on_answer_of_wrong_type(answer: &str, ty: &Ty) -> &'static st
         Ty::Int => "; type int is a number such as 7",
         Ty::Bool => "; type bool is true or false",
         Ty::Text => "; type text is a string of printable ASCII such as \"a\"",
-        _ if has_text_of_other_characters(answer) && may_hold_text(ty) => {
+        _ if has_character_beyond_printable_ascii(answer) && may_hold_text(ty) => {
             "; texts are printable ASCII"
         }
         Ty::Tuple(_) => "; a tuple is an array with a part of each of its types",
         Ty::List(_) => "; a list is an array, each item of its item type",
-        Ty::Map(keys, _) => hint_on_map(*keys),
+        Ty::Map(keys, _) => hint_on_client_map_answer(*keys),
         _ => "",
     }
 }

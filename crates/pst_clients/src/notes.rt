@@ -70,7 +70,7 @@ struct KeptNotes {
 
 /// What went wrong with a line, and the line.
 #[derive(Clone, Copy, Drop)]
-pub(crate) struct BadLine<'a> {
+pub(crate) struct BadlyAnsweredLine<'a> {
     pub(crate) kind: NoteKind,
     pub(crate) line: &'a [u8],
     /// The line that the client answered, or the reason that none came.
@@ -104,7 +104,10 @@ pub(crate) struct ClientId {
 }
 
 /// The beginning of a line without the white space around it, with control characters as `\x1b`.
-pub(crate) fn printable_beginning(alloc: Global, line: &str) -> Result<String, AllocError> {
+pub(crate) fn printable_beginning_of_trimmed_line(
+    alloc: Global,
+    line: &str,
+) -> Result<String, AllocError> {
     let mut shown = String::new(alloc);
     for (place, character) in line.trim().chars().enumerate() {
         if place == MOST_SHOWN {
@@ -152,7 +155,7 @@ impl KeptNotes {
     }
 
     /// Keeps a note, if a place is left and no other is on its topic.
-    fn keep_note_if_topic_is_new(&self, note: Note) {
+    fn keep_note_if_new_topic_and_room(&self, note: Note) {
         if self.has_topic(note.topic.as_str()) {
             return;
         }
@@ -221,7 +224,7 @@ impl Notes {
         self.failed_resets.store(0, Ordering::SeqCst);
     }
 
-    fn of_kind(&self, kind: NoteKind) -> &KeptNotes {
+    fn notes_of_kind(&self, kind: NoteKind) -> &KeptNotes {
         match kind {
             NoteKind::NotAsked => &self.not_asked,
             NoteKind::NotAnswered => &self.not_answered,
@@ -233,9 +236,16 @@ impl Notes {
         }
     }
 
-    fn bad_line_note(&self, client: ClientId, wrong: &BadLine<'_>) -> Result<Note, AllocError> {
-        let line = printable_beginning(self.alloc, std::str::from_utf8(wrong.line).unwrap_or(""))?;
-        let answer = printable_beginning(self.alloc, wrong.answer)?;
+    fn make_note_on_badly_answered_line(
+        &self,
+        client: ClientId,
+        wrong: &BadlyAnsweredLine<'_>,
+    ) -> Result<Note, AllocError> {
+        let line = printable_beginning_of_trimmed_line(
+            self.alloc,
+            std::str::from_utf8(wrong.line).unwrap_or(""),
+        )?;
+        let answer = printable_beginning_of_trimmed_line(self.alloc, wrong.answer)?;
         let (operation, _) = line.as_str().split_once(',').unwrap_or((line.as_str(), ""));
         let worker = client.worker.saturating_add(1);
         let branch = client.branch.saturating_add(1);
@@ -249,14 +259,14 @@ impl Notes {
     }
 
     /// Notes what went wrong with a client's line.
-    pub(crate) fn note_bad_line(&self, client: ClientId, wrong: &BadLine<'_>) {
-        let kept = self.of_kind(wrong.kind);
+    pub(crate) fn note_badly_answered_line(&self, client: ClientId, wrong: &BadlyAnsweredLine<'_>) {
+        let kept = self.notes_of_kind(wrong.kind);
         kept.count.fetch_add(1, Ordering::SeqCst);
         if kept.is_full() {
             return;
         }
-        if let Ok(note) = self.bad_line_note(client, wrong) {
-            kept.keep_note_if_topic_is_new(note)
+        if let Ok(note) = self.make_note_on_badly_answered_line(client, wrong) {
+            kept.keep_note_if_new_topic_and_room(note)
         }
     }
 
@@ -264,7 +274,7 @@ impl Notes {
     pub fn text(&self) -> Result<String, AllocError> {
         let mut text = String::new(self.alloc);
         for kind in KINDS {
-            self.of_kind(kind)
+            self.notes_of_kind(kind)
                 .add_notes_and_count_of_others(self.alloc, &mut text)?;
         }
         Ok(text)

@@ -20,7 +20,7 @@ pub struct ClientFolder<'a> {
 
 impl<'a> ClientFolder<'a> {
     /// The folder that a word such as `clients:FOLDER` or `shared:FOLDER` names.
-    pub fn from_word(word: &'a str) -> Option<ClientFolder<'a>> {
+    pub fn from_argument(word: &'a str) -> Option<ClientFolder<'a>> {
         if let Some(name) = word.strip_prefix("clients:") {
             return Some(ClientFolder {
                 name,
@@ -51,7 +51,7 @@ fn open_client<R: Files + AllocGlobal>(
     let answers = std::fs::open(rt, name.as_str())?;
     let client = Connection::new(alloc, BufReader::new(alloc, answers)?, calls);
     match std::fs::metadata(rt, name.as_str()) {
-        Ok(kind) if !kind.is_file() => Ok(client.at_pipe(name)),
+        Ok(kind) if !kind.is_file() => Ok(client.with_answer_pipe_name(name)),
         _ => Ok(client),
     }
 }

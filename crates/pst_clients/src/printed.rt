@@ -12,7 +12,7 @@ const LAST: &str = "pst";
 
 /// The lines that a client printed, up to the last one.
 #[derive(Drop)]
-pub(crate) struct Printed {
+pub(crate) struct PrintedByClient {
     /// The first line, or the beginning of a line.
     pub(crate) first: Option<String>,
     /// Whether the launcher says that the client has ended.
@@ -21,10 +21,10 @@ pub(crate) struct Printed {
     pub(crate) is_whole: bool,
 }
 
-impl Printed {
+impl PrintedByClient {
     /// No lines.
-    pub(crate) fn new() -> Printed {
-        Printed {
+    pub(crate) fn new() -> PrintedByClient {
+        PrintedByClient {
             first: None,
             has_ended: false,
             is_whole: false,
@@ -33,7 +33,7 @@ impl Printed {
 
     /// Keeps the text of a line if it is the first one. In a line with a mark, the text is what comes before the mark,
     /// if that is not empty, and the mark sets `is_whole` if this program wrote it, or else `has_ended`.
-    pub(crate) fn record_line_or_mark(
+    pub(crate) fn record_first_line_or_mark(
         &mut self,
         alloc: Global,
         line: &str,

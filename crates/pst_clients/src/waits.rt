@@ -1,6 +1,6 @@
 //! Which clients have a line that they have not answered yet.
 
-use crate::notes::{ClientId, printable_beginning};
+use crate::notes::{ClientId, printable_beginning_of_trimmed_line};
 use std::alloc::{AllocError, Global};
 use std::sync::atomic::{AtomicU64, Ordering};
 
@@ -15,7 +15,7 @@ const MOST_KEPT: usize = 128;
 
 /// The lines of a client.
 #[derive(Drop)]
-struct LastLine {
+struct LastClientLine {
     /// How many it got and how many of them it is done with, added up. The sum is odd while it has a line that it
     /// has not answered.
     sum: AtomicU64,
@@ -23,14 +23,14 @@ struct LastLine {
     kept: Vec<AtomicU64>,
 }
 
-impl LastLine {
+impl LastClientLine {
     /// No lines.
-    fn new(alloc: Global) -> Result<LastLine, AllocError> {
+    fn new(alloc: Global) -> Result<LastClientLine, AllocError> {
         let mut kept = Vec::with_capacity(alloc, MOST_KEPT)?;
         for _ in 0..MOST_KEPT {
             kept.push(AtomicU64::new(b'\n' as u64))?;
         }
-        Ok(LastLine {
+        Ok(LastClientLine {
             sum: AtomicU64::new(0),
             kept,
         })
@@ -59,14 +59,17 @@ impl LastLine {
     /// The beginning of the last line, as it is shown.
     fn printable_beginning_of_last_line(&self, alloc: Global) -> Result<String, AllocError> {
         let line = self.ascii_beginning_of_last_line(alloc)?;
-        printable_beginning(alloc, std::str::from_utf8(line.as_slice()).unwrap_or(""))
+        printable_beginning_of_trimmed_line(
+            alloc,
+            std::str::from_utf8(line.as_slice()).unwrap_or(""),
+        )
     }
 }
 
 /// The lines of each client.
 #[derive(Drop)]
 pub struct ClientWaits {
-    clients: Vec<LastLine>,
+    clients: Vec<LastClientLine>,
 }
 
 impl ClientWaits {
@@ -74,13 +77,13 @@ impl ClientWaits {
     pub(crate) fn new(alloc: Global) -> Result<ClientWaits, AllocError> {
         let mut clients = Vec::with_capacity(alloc, MOST_CLIENTS)?;
         for _ in 0..MOST_CLIENTS {
-            clients.push(LastLine::new(alloc)?)?;
+            clients.push(LastClientLine::new(alloc)?)?;
         }
         Ok(ClientWaits { clients })
     }
 
     /// The lines of a client, if it is watched.
-    fn lines_of(&self, client: ClientId) -> Option<&LastLine> {
+    fn last_line_if_watched(&self, client: ClientId) -> Option<&LastClientLine> {
         let worker = usize::try_from(client.worker).ok()?;
         let branch = client.branch as usize;
         if branch >= MOST_BRANCHES {
@@ -91,8 +94,8 @@ impl ClientWaits {
     }
 
     /// Counts that a client gets a line.
-    pub(crate) fn begin(&self, client: ClientId, line: &[u8]) {
-        if let Some(lines) = self.lines_of(client) {
+    pub(crate) fn begin_wait_for_answer(&self, client: ClientId, line: &[u8]) {
+        if let Some(lines) = self.last_line_if_watched(client) {
             lines.keep_beginning_as_last_line(line);
             lines.sum.fetch_add(1, Ordering::SeqCst);
         }
@@ -100,14 +103,14 @@ impl ClientWaits {
 
     /// Counts that more is read of what a client answered to its last line.
     pub(crate) fn begin_wait_for_more_output(&self, client: ClientId) {
-        if let Some(lines) = self.lines_of(client) {
+        if let Some(lines) = self.last_line_if_watched(client) {
             lines.sum.fetch_add(1, Ordering::SeqCst);
         }
     }
 
     /// Counts that a client is done with its line.
-    pub(crate) fn end(&self, client: ClientId) {
-        if let Some(lines) = self.lines_of(client) {
+    pub(crate) fn end_wait_for_client(&self, client: ClientId) {
+        if let Some(lines) = self.last_line_if_watched(client) {
             lines.sum.fetch_add(1, Ordering::SeqCst);
         }
     }
@@ -142,7 +145,7 @@ impl ClientWaits {
         alloc: Global,
         client: ClientId,
     ) -> Result<String, AllocError> {
-        match self.lines_of(client) {
+        match self.last_line_if_watched(client) {
             Some(lines) => lines.printable_beginning_of_last_line(alloc),
             None => Ok(String::new(alloc)),
         }

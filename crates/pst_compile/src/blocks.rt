@@ -15,7 +15,7 @@ use std::alloc::{AllocError, Global};
 pub type Block = Result<Items<Instr>, AllocError>;
 
 /// The place `count` instructions after `place`.
-fn place_after(place: usize, count: usize) -> Result<usize, AllocError>
+fn instruction_place_after(place: usize, count: usize) -> Result<usize, AllocError>
     ensures { IfOk result (λ after. after ≡ place + count) }
 {
     match place.checked_add(count) {
@@ -77,7 +77,7 @@ pub fn code_skipped_unless_true(
 ) -> Block
     ensures { IfOk result (λ all. all ≡ spec.skipped_unless register code place) }
 {
-    let after = place_after(place_after(place, 1)?, code.len())?;
+    let after = instruction_place_after(instruction_place_after(place, 1)?, code.len())?;
     prepend_instruction(alloc, Instr::Unless(register, after), code)
 }
 
@@ -91,8 +91,11 @@ pub fn if_else_code(
 ) -> Block
     ensures { IfOk result (λ all. all ≡ spec.either register first second place) }
 {
-    let other = place_after(place_after(place_after(place, 1)?, first.len())?, 1)?;
-    let after = place_after(other, second.len())?;
+    let other = instruction_place_after(
+        instruction_place_after(instruction_place_after(place, 1)?, first.len())?,
+        1,
+    )?;
+    let after = instruction_place_after(other, second.len())?;
     let rest = prepend_instruction(alloc, Instr::Jump(after), second)?;
     let both = concat_code(first, rest)?;
     prepend_instruction(alloc, Instr::Unless(register, other), both)
@@ -105,9 +108,9 @@ pub fn loop_code(alloc: Global, list: u32, index: Target, body: Items<Instr>) ->
         instr.Const index.register (int (pos 0))
         ∷ spec.looped (index.register + 1) list index.register body (index.place + 1)) }
 {
-    let jump = place_after(index.place, 1)?;
-    let start = place_after(jump, 1)?;
-    let end = place_after(start, body.len())?;
+    let jump = instruction_place_after(index.place, 1)?;
+    let start = instruction_place_after(jump, 1)?;
+    let end = instruction_place_after(start, body.len())?;
     let item = register_after(index.register, 1)?;
     let turns = append_instruction(body, Instr::Loop(item, list, index.register, start))?;
     let all = prepend_instruction(alloc, Instr::Jump(end), turns)?;

@@ -87,12 +87,18 @@ pub fn listing(alloc: Global, compiled: &Compiled) -> Result<Items<u8>, AllocErr
 
 /// Runs a function of the code on lent arguments: those of `first`, and then those of `rest`. Each of its runs
 /// has one end, which is not stuck.
-fn run_function(code: &Code, alloc: Global, fun: usize, first: &[&Value], rest: &[Value]) -> Answer
+fn run_callback_with_max_turns(
+    code: &Code,
+    alloc: Global,
+    fun: usize,
+    first: &[&Value],
+    rest: &[Value],
+) -> Answer
     requires { (o : End) × DoesOnly code.now fun (map (λ v. v.now) first.now ++ rest.now) o }
     ensures { IfOk result (λ a. (o : End)
         → DoesOnly code.now fun (map (λ v. v.now) first.now ++ rest.now) o → Says o a) }
 {
-    match code.run_lent(alloc, fun, first, rest, MAX_TURNS)? {
+    match code.run_on_lent_arguments(alloc, fun, first, rest, MAX_TURNS)? {
         Outcome::Value(value, turns) => Ok(Ok((value, turns))),
         Outcome::Fault(fault) => Ok(Err(fault)),
         Outcome::Stuck => unreachable!(),
@@ -123,19 +129,19 @@ impl Callbacks for Compiled {
     fn init(&self, alloc: Global) -> Answer {
         let _model = self.typed.source();
         let place = callback_function_number(self.base, 0, 0)?;
-        run_function(&self.code, alloc, place, &[], &[])
+        run_callback_with_max_turns(&self.code, alloc, place, &[], &[])
     }
 
     fn command(&self, alloc: Global, state: &Value) -> Answer {
         let _model = self.typed.source();
         let place = callback_function_number(self.base, 0, 1)?;
-        run_function(&self.code, alloc, place, &[state], &[])
+        run_callback_with_max_turns(&self.code, alloc, place, &[state], &[])
     }
 
     fn pre(&self, alloc: Global, op: u32, state: &Value, arguments: &[Value]) -> Answer {
         let _model = self.typed.source();
         let place = callback_function_number(self.base, op, 2)?;
-        run_function(&self.code, alloc, place, &[state], arguments)
+        run_callback_with_max_turns(&self.code, alloc, place, &[state], arguments)
     }
 
     fn next(
@@ -148,7 +154,7 @@ impl Callbacks for Compiled {
     ) -> Answer {
         let _model = self.typed.source();
         let place = callback_function_number(self.base, op, 3)?;
-        run_function(&self.code, alloc, place, &[state, r], arguments)
+        run_callback_with_max_turns(&self.code, alloc, place, &[state, r], arguments)
     }
 
     fn post(
@@ -161,6 +167,6 @@ impl Callbacks for Compiled {
     ) -> Answer {
         let _model = self.typed.source();
         let place = callback_function_number(self.base, op, 4)?;
-        run_function(&self.code, alloc, place, &[state, r], arguments)
+        run_callback_with_max_turns(&self.code, alloc, place, &[state, r], arguments)
     }
 }

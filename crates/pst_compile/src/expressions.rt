@@ -12,7 +12,7 @@ use crate::blocks::{
 use crate::loops::{fold_code, for_code};
 use crate::names::Names;
 use crate::operands::{
-    Operand, Operands, apply_instruction_code, call_instruction_code, name_code, own_register,
+    Operand, Operands, apply_instruction_code, call_instruction_code, name_code, register_if_name,
 };
 use crate::target::Target;
 use pst_eval::Context;
@@ -88,7 +88,7 @@ pub fn operand_code(
     ensures register { IfOk result (λ operand. operand.register ≡
         spec.at (code_in context.now expr.now) (scope_of names.now) target.register) }
 {
-    match own_register(expr, context, names)? {
+    match register_if_name(expr, context, names)? {
         Some(register) => Ok(Operand {
             code: Items::new(context.alloc),
             register,
@@ -119,7 +119,9 @@ fn operands_code(
     let mut next = target;
     for expr in exprs {
         let operand = operand_code(expr, context, names, next)?;
-        next = next.after(operand.code.len())?.above(1)?;
+        next = next
+            .instructions_later(operand.code.len())?
+            .registers_higher(1)?;
         code.append(operand.code)?;
         registers.push(operand.register)?;
     }
@@ -160,7 +162,9 @@ pub fn binary_code(
         (code_in context.now second.now) (scope_of names.now) dest target.register target.place) }
 {
     let left = operand_code(first.get(), context, names, target)?;
-    let next = target.after(left.code.len())?.above(1)?;
+    let next = target
+        .instructions_later(left.code.len())?
+        .registers_higher(1)?;
     let right = operand_code(second.get(), context, names, next)?;
     let last = Instr::Binary(operator, dest, left.register, right.register);
     concat_code(left.code, append_instruction(right.code, last)?)
@@ -183,9 +187,13 @@ pub fn map_put_code(
         (scope_of names.now) dest target.register target.place) }
 {
     let first = operand_code(map.get(), context, names, target)?;
-    let next = target.after(first.code.len())?.above(1)?;
+    let next = target
+        .instructions_later(first.code.len())?
+        .registers_higher(1)?;
     let second = operand_code(key.get(), context, names, next)?;
-    let last = next.after(second.code.len())?.above(1)?;
+    let last = next
+        .instructions_later(second.code.len())?
+        .registers_higher(1)?;
     let third = operand_code(value.get(), context, names, last)?;
     let instr = Instr::Put(dest, first.register, second.register, third.register);
     concat_code(
@@ -207,7 +215,9 @@ fn let_code(
         (code_in context.now body.now) (scope_of names.now) target.register target.place) }
 {
     let first = operand_code(bound.get(), context, names, target)?;
-    let next = target.after(first.code.len())?.above(1)?;
+    let next = target
+        .instructions_later(first.code.len())?
+        .registers_higher(1)?;
     let inner = Names::With(name.as_bytes(), first.register, &*names);
     let second = expression_code(body.get(), context, &inner, next)?;
     concat_code(
@@ -230,10 +240,12 @@ fn if_code(
         (scope_of names.now) target.register target.place) }
 {
     let operand = operand_code(test.get(), context, names, target)?;
-    let jump = target.after(operand.code.len())?;
-    let start = jump.after(1)?;
+    let jump = target.instructions_later(operand.code.len())?;
+    let start = jump.instructions_later(1)?;
     let first = expression_code(then.get(), context, names, start)?;
-    let middle = start.after(first.len())?.after(1)?;
+    let middle = start
+        .instructions_later(first.len())?
+        .instructions_later(1)?;
     let second = expression_code(other.get(), context, names, middle)?;
     let both = if_else_code(context.alloc, operand.register, first, second, jump.place)?;
     concat_code(operand.code, both)
@@ -251,8 +263,8 @@ fn and_code(
         (code_in context.now second.now) (scope_of names.now) target.register target.place) }
 {
     let code = expression_code(first.get(), context, names, target)?;
-    let jump = target.after(code.len())?;
-    let inner = expression_code(second.get(), context, names, jump.after(1)?)?;
+    let jump = target.instructions_later(code.len())?;
+    let inner = expression_code(second.get(), context, names, jump.instructions_later(1)?)?;
     let rest = code_skipped_unless_true(context.alloc, target.register, inner, jump.place)?;
     concat_code(code, rest)
 }
@@ -269,8 +281,13 @@ fn or_code(
         (code_in context.now second.now) (scope_of names.now) target.register target.place) }
 {
     let code = expression_code(first.get(), context, names, target)?;
-    let jump = target.after(code.len())?;
-    let inner = expression_code(second.get(), context, names, jump.after(1)?.after(1)?)?;
+    let jump = target.instructions_later(code.len())?;
+    let inner = expression_code(
+        second.get(),
+        context,
+        names,
+        jump.instructions_later(1)?.instructions_later(1)?,
+    )?;
     let rest = if_else_code(
         context.alloc,
         target.register,
@@ -293,7 +310,7 @@ fn call_code(
         (map (code_in context.now) exprs.now) (scope_of names.now) target.register target.place) }
 {
     let operands = operands_code(exprs.as_slice(), context, names, target)?;
-    let next = target.after(operands.code.len())?;
+    let next = target.instructions_later(operands.code.len())?;
     concat_code(
         operands.code,
         call_instruction_code(name, context, next, operands.registers)?,
@@ -312,7 +329,7 @@ fn apply_code(
         (map (code_in context.now) exprs.now) (scope_of names.now) target.register target.place) }
 {
     let operands = operands_code(exprs.as_slice(), context, names, target)?;
-    let next = target.after(operands.code.len())?;
+    let next = target.instructions_later(operands.code.len())?;
     concat_code(
         operands.code,
         apply_instruction_code(name, context, next, operands.registers)?,

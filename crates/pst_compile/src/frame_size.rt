@@ -8,7 +8,7 @@ use pst_machine::Instr;
 use std::alloc::AllocError;
 
 /// The larger of two counts.
-pub fn larger(a: u32, b: u32) -> u32
+pub fn larger_register_count(a: u32, b: u32) -> u32
     ensures { result ≡ max a b }
 {
     if a < b { b } else { a }
@@ -25,7 +25,7 @@ fn next_register(register: u32) -> Result<u32, AllocError>
 fn frame_size_for_two_registers(a: u32, b: u32) -> Result<u32, AllocError>
     ensures { IfOk result (λ count. count ≡ max (spec.past a) (spec.past b)) }
 {
-    Ok(larger(next_register(a)?, next_register(b)?))
+    Ok(larger_register_count(next_register(a)?, next_register(b)?))
 }
 
 /// One past the greatest of some registers.
@@ -34,7 +34,7 @@ fn frame_size_for_registers(registers: &[u32]) -> Result<u32, AllocError>
 {
     let mut count = 0;
     for register in registers {
-        count = larger(count, next_register(*register)?);
+        count = larger_register_count(count, next_register(*register)?);
     }
     Ok(count)
 }
@@ -50,24 +50,24 @@ fn frame_size_for_instruction(instr: &Instr) -> Result<u32, AllocError>
         | Instr::Unary(_, d, a)
         | Instr::At(d, a, _)
         | Instr::Append(d, a) => frame_size_for_two_registers(*d, *a),
-        Instr::Binary(_, d, a, b) => Ok(larger(
+        Instr::Binary(_, d, a, b) => Ok(larger_register_count(
             next_register(*d)?,
             frame_size_for_two_registers(*a, *b)?,
         )),
-        Instr::Put(d, a, b, c) => Ok(larger(
+        Instr::Put(d, a, b, c) => Ok(larger_register_count(
             frame_size_for_two_registers(*d, *a)?,
             frame_size_for_two_registers(*b, *c)?,
         )),
         Instr::Tuple(d, from)
         | Instr::List(d, from)
         | Instr::Call(d, _, from)
-        | Instr::Apply(d, _, from) => Ok(larger(
+        | Instr::Apply(d, _, from) => Ok(larger_register_count(
             next_register(*d)?,
             frame_size_for_registers(from.as_slice())?,
         )),
         Instr::Jump(_) => Ok(0),
         Instr::Unless(a, _) => next_register(*a),
-        Instr::Loop(d, a, i, _) => Ok(larger(
+        Instr::Loop(d, a, i, _) => Ok(larger_register_count(
             next_register(*d)?,
             frame_size_for_two_registers(*a, *i)?,
         )),
@@ -81,7 +81,7 @@ pub fn frame_size(body: &[Instr]) -> Result<u32, AllocError>
 {
     let mut count = 0;
     for instr in body {
-        count = larger(count, frame_size_for_instruction(instr)?);
+        count = larger_register_count(count, frame_size_for_instruction(instr)?);
     }
     Ok(count)
 }

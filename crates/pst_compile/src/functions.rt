@@ -7,12 +7,12 @@ ghost use Rattle.pst_compile.specs.Scopes.{scope_of, function_in, numbers_in};
 
 use crate::blocks::append_instruction;
 use crate::expressions::operand_code;
-use crate::frame_size::{frame_size, larger};
+use crate::frame_size::{frame_size, larger_register_count};
 use crate::names::Names;
 use crate::target::{Target, register_after};
 use pst_eval::Context;
 use pst_machine::{FunCode, Instr};
-use pst_model::{Expr, Fun, Item, Op, calls_of, initial_state_of};
+use pst_model::{Expr, Fun, Item, Op, find_command_expression, find_initial_state_expression};
 use pst_value::Items;
 use std::alloc::{AllocError, Global};
 
@@ -20,7 +20,7 @@ use std::alloc::{AllocError, Global};
 type Functions = Result<Items<FunCode>, AllocError>;
 
 /// The function of an expression whose names have the first `count` registers.
-fn expression_function(
+fn expression_function_code(
     expr: &Expr,
     context: &Context<'_>,
     names: &Names<'_>,
@@ -34,7 +34,7 @@ fn expression_function(
     };
     let loaded = operand_code(expr, context, names, start)?;
     let body = append_instruction(loaded.code, Instr::Return(loaded.register))?;
-    let registers = larger(count, frame_size(body.as_slice())?);
+    let registers = larger_register_count(count, frame_size(body.as_slice())?);
     Ok(FunCode {
         args: count,
         registers,
@@ -43,7 +43,7 @@ fn expression_function(
 }
 
 /// How many registers the parameters have.
-fn register_count(params: usize) -> Result<u32, AllocError>
+fn parameter_register_count(params: usize) -> Result<u32, AllocError>
     ensures { IfOk result (λ count. count ≡ params) }
 {
     match u32::try_from(params) {
@@ -58,11 +58,11 @@ fn function_code(fun: &Fun, context: &Context<'_>) -> Result<FunCode, AllocError
         (numbers_in context.now) fun.now) }
 {
     let names = Names::Frame(fun.params.as_slice(), 0);
-    expression_function(
+    expression_function_code(
         &fun.body,
         context,
         &names,
-        register_count(fun.params.len())?,
+        parameter_register_count(fun.params.len())?,
     )
 }
 
@@ -86,7 +86,7 @@ fn functions_code(alloc: Global, items: &[Item]) -> Functions
 }
 
 /// The code of an expression, or an empty function if there is no expression.
-fn optional_code(
+fn function_code_or_empty(
     expr: Option<&Expr>,
     context: &Context<'_>,
     names: &Names<'_>,
@@ -96,7 +96,7 @@ fn optional_code(
         (numbers_in context.now) count (scope_of names.now) (option_copied expr.entry)) }
 {
     match expr {
-        Some(expr) => expression_function(expr, context, names, count),
+        Some(expr) => expression_function_code(expr, context, names, count),
         None => Ok(FunCode {
             args: 0,
             registers: 0,
@@ -106,11 +106,11 @@ fn optional_code(
 }
 
 /// The code of the three callbacks of an operation.
-fn operation_code(op: &Op, context: &Context<'_>) -> Functions
+fn operation_callbacks_code(op: &Op, context: &Context<'_>) -> Functions
     ensures { IfOk result (λ all. all ≡ spec.operation_code context.now.items.now
         (numbers_in context.now) op.now) }
 {
-    let count = register_count(op.params.len())?;
+    let count = parameter_register_count(op.params.len())?;
     let with_state = register_after(count, 1)?;
     let with_result = register_after(count, 2)?;
     let params = Names::Frame(op.params.as_slice(), 1);
@@ -118,22 +118,22 @@ fn operation_code(op: &Op, context: &Context<'_>) -> Functions
     let shifted = Names::Frame(op.params.as_slice(), 2);
     let state = Names::With(b"s", 0, &shifted);
     let after = Names::With(b"r", 1, &state);
-    let pre = expression_function(&op.pre, context, &before, with_state)?;
-    let next = expression_function(&op.next, context, &after, with_result)?;
-    let post = expression_function(&op.post, context, &after, with_result)?;
+    let pre = expression_function_code(&op.pre, context, &before, with_state)?;
+    let next = expression_function_code(&op.next, context, &after, with_result)?;
+    let post = expression_function_code(&op.post, context, &after, with_result)?;
     let all = Vec::from_array(context.alloc, [pre, next, post])?;
     Ok(Items::from_vec(all))
 }
 
 /// The code of the callbacks of the operations among some items.
-fn operations_code(context: &Context<'_>, some: &[Item]) -> Functions
+fn callbacks_code_of_operations(context: &Context<'_>, some: &[Item]) -> Functions
     ensures { IfOk result (λ all. all ≡ spec.operations_code context.now.items.now
         (numbers_in context.now) some.now) }
 {
     let mut all = Items::new(context.alloc);
     for item in some {
         if let Item::Op(op) = item {
-            all.append(operation_code(op, context)?)?;
+            all.append(operation_callbacks_code(op, context)?)?;
         }
     }
     Ok(all)
@@ -150,9 +150,9 @@ fn callbacks_code(alloc: Global, items: &[Item]) -> Functions
     };
     let none = Names::Frame(&[], 0);
     let state = Names::With(b"s", 0, &none);
-    let opening = optional_code(initial_state_of(items), &context, &none, 0)?;
-    let command = optional_code(calls_of(items), &context, &state, 1)?;
-    let others = operations_code(&context, items)?;
+    let opening = function_code_or_empty(find_initial_state_expression(items), &context, &none, 0)?;
+    let command = function_code_or_empty(find_command_expression(items), &context, &state, 1)?;
+    let others = callbacks_code_of_operations(&context, items)?;
     let mut all = Items::new(alloc);
     all.push(opening)?;
     all.push(command)?;

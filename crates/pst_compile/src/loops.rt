@@ -31,7 +31,7 @@ pub fn for_code(
         (code_in context.now body.now) (scope_of names.now) target.register target.place) }
 {
     let built = target.register;
-    let next = target.after(1)?.above(1)?;
+    let next = target.instructions_later(1)?.registers_higher(1)?;
     let code = clauses_code(clauses.as_slice(), body.get(), context, names, built, next)?;
     let empty = Value::List(Items::new(context.alloc));
     prepend_instruction(context.alloc, Instr::Const(built, empty), code)
@@ -54,11 +54,15 @@ pub fn fold_code(
         (scope_of names.now) target.register target.place) }
 {
     let list = operand_code(list.get(), context, names, target)?;
-    let built = target.after(list.code.len())?.above(1)?;
+    let built = target
+        .instructions_later(list.code.len())?
+        .registers_higher(1)?;
     let opening = expression_code(first.get(), context, names, built)?;
-    let index = built.after(opening.len())?.above(1)?;
-    let item = index.after(1)?.above(1)?;
-    let inside = item.after(1)?.above(1)?;
+    let index = built
+        .instructions_later(opening.len())?
+        .registers_higher(1)?;
+    let item = index.instructions_later(1)?.registers_higher(1)?;
+    let inside = item.instructions_later(1)?.registers_higher(1)?;
     let outer = Names::With(name.as_bytes(), item.register, &*names);
     let inner = Names::With(acc.as_bytes(), built.register, &outer);
     let turn = overwriting_code(body.get(), context, &inner, built.register, inside)?;
@@ -112,9 +116,11 @@ fn in_clause_code(
         (scope_of names.now) target.register target.place) }
 {
     let list = operand_code(list, context, names, target)?;
-    let index = target.after(list.code.len())?.above(1)?;
-    let item = index.after(1)?.above(1)?;
-    let inside = item.after(1)?.above(1)?;
+    let index = target
+        .instructions_later(list.code.len())?
+        .registers_higher(1)?;
+    let item = index.instructions_later(1)?.registers_higher(1)?;
+    let inside = item.instructions_later(1)?.registers_higher(1)?;
     let inner = Names::With(name.as_bytes(), item.register, &*names);
     let turn = clauses_code(rest, body, context, &inner, built, inside)?;
     concat_code(
@@ -140,8 +146,15 @@ fn when_clause_code(
         (scope_of names.now) target.register target.place) }
 {
     let operand = operand_code(test, context, names, target)?;
-    let jump = target.after(operand.code.len())?;
-    let inner = clauses_code(rest, body, context, names, built, jump.after(1)?)?;
+    let jump = target.instructions_later(operand.code.len())?;
+    let inner = clauses_code(
+        rest,
+        body,
+        context,
+        names,
+        built,
+        jump.instructions_later(1)?,
+    )?;
     let code = code_skipped_unless_true(context.alloc, operand.register, inner, jump.place)?;
     concat_code(operand.code, code)
 }

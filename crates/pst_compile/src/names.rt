@@ -32,7 +32,7 @@ fn parameter_register(params: &[Param], first: u32, name: &[u8]) -> Result<Optio
 }
 
 /// The register of `name`, if it has one.
-pub fn register_of(names: &Names<'_>, name: &[u8]) -> Result<Option<u32>, AllocError>
+pub fn register_of_name(names: &Names<'_>, name: &[u8]) -> Result<Option<u32>, AllocError>
     ensures { IfOk result (λ r. r ≡ spec.find (scope_of names.now) name.now) }
 {
     match names {
@@ -41,7 +41,7 @@ pub fn register_of(names: &Names<'_>, name: &[u8]) -> Result<Option<u32>, AllocE
             if *bound == name {
                 return Ok(Some(*register));
             }
-            register_of(outer, name)
+            register_of_name(outer, name)
         }
     }
 }
@@ -57,7 +57,7 @@ fn is_function(item: &Item) -> bool
 }
 
 /// Whether an item is a function of the name.
-fn is_function_of(item: &Item, name: &[u8]) -> bool
+fn is_function_named(item: &Item, name: &[u8]) -> bool
     ensures { result ≡ spec.is_function_of item.now name.now }
 {
     match item {
@@ -82,13 +82,13 @@ pub fn count_functions(items: &[Item]) -> usize
 
 /// The number of the last function called `name`, if there is one.
 #[tactic(auto, using(crate::proofs::Earlier::earlier_next))]
-pub fn number_of_function_called(items: &[Item], name: &[u8]) -> Option<usize>
+pub fn number_of_last_function_named(items: &[Item], name: &[u8]) -> Option<usize>
     ensures { result ≡ spec.number (reverse items.now) name.now }
 {
     let mut count = 0;
     let mut found = None;
     for item in items {
-        if is_function_of(item, name) {
+        if is_function_named(item, name) {
             found = Some(count);
         }
         if is_function(item) {

@@ -6,7 +6,7 @@ ghost use Rattle.pst_compile.specs.Scopes.{scope_of, code_in, numbers_in};
 ghost use Rattle.pst_model.specs.Parts.{operation_number};
 
 use crate::blocks::{Block, single_instruction};
-use crate::names::{Names, number_of_function_called, register_of};
+use crate::names::{Names, number_of_last_function_named, register_of_name};
 use crate::target::Target;
 use pst_eval::Context;
 use pst_machine::Instr;
@@ -29,7 +29,7 @@ pub struct Operands {
 }
 
 /// The register of the name that an expression is.
-pub fn own_register(
+pub fn register_if_name(
     expr: &Expr,
     context: &Context<'_>,
     names: &Names<'_>,
@@ -37,7 +37,7 @@ pub fn own_register(
     ensures { IfOk result (λ r. r ≡ spec.own (code_in context.now expr.now).name (scope_of names.now)) }
 {
     match expr {
-        Expr::Name(name) => register_of(names, name.as_bytes()),
+        Expr::Name(name) => register_of_name(names, name.as_bytes()),
         Expr::Int(_)
         | Expr::Bool(_)
         | Expr::Text(_)
@@ -64,7 +64,7 @@ pub fn name_code(name: &Text, alloc: Global, names: &Names<'_>, target: Target) 
     ensures { IfOk result (λ code. code ≡
         spec.name_code name.now (scope_of names.now) target.register target.place) }
 {
-    match register_of(names, name.as_bytes())? {
+    match register_of_name(names, name.as_bytes())? {
         Some(register) => single_instruction(alloc, Instr::Move(target.register, register)),
         None => single_instruction(alloc, Instr::Move(target.register, target.register)),
     }
@@ -100,7 +100,7 @@ pub fn apply_instruction_code(
     ensures { IfOk result (λ code. code ≡
         spec.apply_to target.register (numbers_in context.now name.now) from target.place) }
 {
-    match number_of_function_called(context.earlier, name.as_bytes()) {
+    match number_of_last_function_named(context.earlier, name.as_bytes()) {
         Some(fun) => single_instruction(context.alloc, Instr::Apply(target.register, fun, from)),
         None => single_instruction(context.alloc, Instr::Move(target.register, target.register)),
     }

@@ -31,14 +31,14 @@ pub fn overwriting_code(
         (scope_of names.now) dest target.register target.place) }
 {
     match expr {
-        Expr::Name(name) => name_code(name, context.alloc, names, target.to(dest)),
+        Expr::Name(name) => name_code(name, context.alloc, names, target.with_register(dest)),
         Expr::Binary(operator, a, b) => binary_code(*operator, a, b, context, names, dest, target),
         Expr::Put(map, key, value) => map_put_code(map, key, value, context, names, dest, target),
         Expr::Let(name, bound, body) => {
-            overwrite_by_let(name, bound, body, context, names, dest, target)
+            overwriting_let_code(name, bound, body, context, names, dest, target)
         }
         Expr::If(test, then, other) => {
-            overwrite_by_if(test, then, other, context, names, dest, target)
+            overwriting_if_code(test, then, other, context, names, dest, target)
         }
         Expr::Int(_)
         | Expr::Bool(_)
@@ -63,7 +63,7 @@ pub fn overwriting_code(
 /// The code of a `let` whose value goes to the register `dest`, over the value there. The parts of the form are
 /// parameters of their own, since the contract names each.
 #[cycle(expression_code)]
-fn overwrite_by_let(
+fn overwriting_let_code(
     name: &Text,
     bound: &Boxed<Expr>,
     body: &Boxed<Expr>,
@@ -76,7 +76,9 @@ fn overwrite_by_let(
         (code_in context.now body.now) (scope_of names.now) dest target.register target.place) }
 {
     let first = operand_code(bound.get(), context, names, target)?;
-    let next = target.after(first.code.len())?.above(1)?;
+    let next = target
+        .instructions_later(first.code.len())?
+        .registers_higher(1)?;
     let inner = Names::With(name.as_bytes(), first.register, &*names);
     let second = overwriting_code(body.get(), context, &inner, dest, next)?;
     concat_code(first.code, second)
@@ -85,7 +87,7 @@ fn overwrite_by_let(
 /// The code of an `if` whose value goes to the register `dest`, over the value there. The parts of the form are
 /// parameters of their own, since the contract names each.
 #[cycle(expression_code)]
-fn overwrite_by_if(
+fn overwriting_if_code(
     test: &Boxed<Expr>,
     then: &Boxed<Expr>,
     other: &Boxed<Expr>,
@@ -99,10 +101,12 @@ fn overwrite_by_if(
         (scope_of names.now) dest target.register target.place) }
 {
     let operand = operand_code(test.get(), context, names, target)?;
-    let jump = target.after(operand.code.len())?;
-    let start = jump.after(1)?;
+    let jump = target.instructions_later(operand.code.len())?;
+    let start = jump.instructions_later(1)?;
     let first = overwriting_code(then.get(), context, names, dest, start)?;
-    let middle = start.after(first.len())?.after(1)?;
+    let middle = start
+        .instructions_later(first.len())?
+        .instructions_later(1)?;
     let second = overwriting_code(other.get(), context, names, dest, middle)?;
     let both = if_else_code(context.alloc, operand.register, first, second, jump.place)?;
     concat_code(operand.code, both)

@@ -13,7 +13,7 @@ pub struct Target {
 
 impl Target {
     /// At the same place, with this register.
-    pub fn to(self, register: u32) -> Target
+    pub fn with_register(self, register: u32) -> Target
         ensures register { result.register ≡ register }
         ensures place { result.place ≡ self.place }
     {
@@ -26,7 +26,7 @@ impl Target {
     /// The target `count` instructions later.
     ///
     /// `AllocError`: the place has no number, and no memory holds such code.
-    pub fn after(self, count: usize) -> Result<Target, AllocError>
+    pub fn instructions_later(self, count: usize) -> Result<Target, AllocError>
         ensures register { IfOk result (λ target. target.register ≡ self.register) }
         ensures place { IfOk result (λ target. target.place ≡ self.place + count) }
     {
@@ -42,7 +42,7 @@ impl Target {
     /// The target with the register `count` further on.
     ///
     /// `AllocError`: the register has no number.
-    pub fn above(self, count: u32) -> Result<Target, AllocError>
+    pub fn registers_higher(self, count: u32) -> Result<Target, AllocError>
         ensures register { IfOk result (λ target. target.register ≡ self.register + count) }
         ensures place { IfOk result (λ target. target.place ≡ self.place) }
     {

@@ -25,7 +25,7 @@ impl Bell {
     }
 
     /// How often it was rung.
-    pub(crate) fn count(&self) -> u64 {
+    pub(crate) fn ring_count(&self) -> u64 {
         self.rung.load(Ordering::SeqCst)
     }
 
@@ -38,24 +38,24 @@ impl Bell {
     }
 
     /// Waits until the count is not `seen`, and returns it: looks up to `LOOKS` times, and then sleeps.
-    pub(crate) fn wait_past<R: Wait>(&self, seen: u64) -> u64 {
+    pub(crate) fn wait_for_new_ring<R: Wait>(&self, seen: u64) -> u64 {
         for _ in 0..LOOKS {
-            let count = self.count();
+            let count = self.ring_count();
             if count != seen {
                 return count;
             }
             spin_loop();
         }
         self.asleep.fetch_add(1, Ordering::SeqCst);
-        let count = self.sleep_past(&WaitHandle::<R>::new(), seen);
+        let count = self.sleep_until_new_ring(&WaitHandle::<R>::new(), seen);
         self.asleep.fetch_sub(1, Ordering::SeqCst);
         count
     }
 
     /// Sleeps until the count is not `seen`, and returns it.
-    fn sleep_past<W: Wait>(&self, waiter: &W, seen: u64) -> u64 {
+    fn sleep_until_new_ring<W: Wait>(&self, waiter: &W, seen: u64) -> u64 {
         for _ in waiter.forever() {
-            let count = self.count();
+            let count = self.ring_count();
             if count != seen {
                 return count;
             }

@@ -5,8 +5,8 @@ ghost use Rattle.pst_driver.specs.Progress.{all_known};
 ghost use Rattle.pst_system.specs.Kept.{AreKept};
 
 use crate::arrivals::StartBarrier;
-use crate::branches::{STACK_BYTES, copy_known_results, may_share_model};
-use crate::desk::{Delivery, Desk, Order};
+use crate::branches::{STACK_BYTES, copy_known_results, prove_model_is_sync};
+use crate::desk::{Delivery, Desk, WorkOrder};
 use crate::fault::DriveFault;
 use crate::part::call_commands_while_replies_are_values;
 use crate::relations::{Relations, SystemWithRelations};
@@ -98,20 +98,23 @@ impl<J: Relations, S: Subject> Crew<J, S> {
 }
 
 /// Whether each command calls an operation of the model.
-fn are_known_operations(typed: &Typed, commands: &[Command]) -> bool
+fn do_commands_call_known_operations(typed: &Typed, commands: &[Command]) -> bool
     ensures { result ≡ all_known typed.now commands.now }
 {
     let Some((command, commands)) = commands.split_first() else {
         return true;
     };
     match operation_of(typed.source().items.as_slice(), command.op as usize) {
-        Some(_) => are_known_operations(typed, commands),
+        Some(_) => do_commands_call_known_operations(typed, commands),
         None => false,
     }
 }
 
 /// Copies the results that are known before an order, with room for those of its commands.
-fn copy_results_before_order(alloc: Global, order: &Order) -> Result<Vec<Option<Value>>, AllocError>
+fn copy_known_results_with_spare_capacity(
+    alloc: Global,
+    order: &WorkOrder,
+) -> Result<Vec<Option<Value>>, AllocError>
     ensures { IfOk result (λ known. known.items ≡ order.now.known) }
 {
     let mut known = copy_known_results(alloc, order.known.as_slice())?;
@@ -121,18 +124,18 @@ fn copy_results_before_order(alloc: Global, order: &Order) -> Result<Vec<Option<
 
 /// Runs an order from `branch`, with a copy of the results that are known before it. `NoThread`: the model does
 /// not have an operation that it calls. `NoMemory`: an allocation failed.
-fn run_order_of_branch<J: Relations, S: Subject>(
+fn run_work_order<J: Relations, S: Subject>(
     alloc: Global,
     typed: &Typed,
     system: &SystemWithRelations<J, S>,
     branch: u32,
-    order: Order,
+    order: WorkOrder,
     known: Result<Vec<Option<Value>>, AllocError>,
 ) -> Result<Delivery<J>, DriveFault>
     requires model { typed.now ≡ J.model }
     requires known { IfOk known (λ copies. copies.items ≡ order.known) }
 {
-    if !are_known_operations(typed, order.commands.as_slice()) {
+    if !do_commands_call_known_operations(typed, order.commands.as_slice()) {
         return Err(DriveFault::NoThread);
     }
     let commands = order.commands.as_slice();
@@ -148,7 +151,7 @@ fn run_order_of_branch<J: Relations, S: Subject>(
 }
 
 /// Runs an order after each ring, and ends at a ring without an order.
-fn run_orders_until_dismissed<J: Relations, S: Subject, R: Wait>(
+fn run_work_orders_until_dismissed<J: Relations, S: Subject, R: Wait>(
     alloc: Global,
     typed: &Typed,
     system: &RwLock<SystemWithRelations<J, S>>,
@@ -161,15 +164,15 @@ fn run_orders_until_dismissed<J: Relations, S: Subject, R: Wait>(
     let waiter = WaitHandle::<R>::new();
     let mut seen = 0;
     for _ in waiter.forever() {
-        seen = desk.asked.wait_past::<R>(seen);
+        seen = desk.asked.wait_for_new_ring::<R>(seen);
         let order = desk.order.lock(&waiter).take();
         let Some(order) = order else {
             return;
         };
-        let known = copy_results_before_order(alloc, &order);
+        let known = copy_known_results_with_spare_capacity(alloc, &order);
         let held = system.read(&waiter);
-        arrivals.arrive_and_wait::<R>();
-        let done = run_order_of_branch(alloc, typed, &*held, branch, order, known);
+        arrivals.arrive_and_wait_with_limit::<R>();
+        let done = run_work_order(alloc, typed, &*held, branch, order, known);
         drop(held);
         *desk.done.lock(&waiter) = Some(done);
         desk.answered.ring();
@@ -177,17 +180,17 @@ fn run_orders_until_dismissed<J: Relations, S: Subject, R: Wait>(
 }
 
 /// What is `Sync` may be shared by threads.
-fn may_share<T: Sync>()
+fn prove_sync<T: Sync>()
     ensures { IsSync T.row }
 {}
 
 /// What is `Send` may be sent to threads.
-fn may_send<T: Send>()
+fn prove_send<T: Send>()
     ensures { IsSend T.row }
 {}
 
 /// Starts the thread of branch `number`, and returns whether it started.
-fn start_thread<'s, E, J: Relations + Send + Sync, S: Subject + Send + Sync, R: Wait>(
+fn start_crew_branch_thread<'s, E, J: Relations + Send + Sync, S: Subject + Send + Sync, R: Wait>(
     _rt: &'s R,
     alloc: Global,
     scope: &Scope<'s, E>,
@@ -197,17 +200,17 @@ fn start_thread<'s, E, J: Relations + Send + Sync, S: Subject + Send + Sync, R: 
 ) -> bool
     requires { typed.now ≡ J.model }
 {
-    may_share_model(typed);
-    may_send::<Command>();
-    may_send::<Value>();
-    may_send::<Order>();
-    may_send::<Delivery<J>>();
-    may_share::<Mutex<Option<Order>>>();
-    may_share::<Mutex<Option<Result<Delivery<J>, DriveFault>>>>();
-    may_share::<Desk<J>>();
-    may_send::<SystemWithRelations<J, S>>();
-    may_share::<SystemWithRelations<J, S>>();
-    may_share::<RwLock<SystemWithRelations<J, S>>>();
+    prove_model_is_sync(typed);
+    prove_send::<Command>();
+    prove_send::<Value>();
+    prove_send::<WorkOrder>();
+    prove_send::<Delivery<J>>();
+    prove_sync::<Mutex<Option<WorkOrder>>>();
+    prove_sync::<Mutex<Option<Result<Delivery<J>, DriveFault>>>>();
+    prove_sync::<Desk<J>>();
+    prove_send::<SystemWithRelations<J, S>>();
+    prove_sync::<SystemWithRelations<J, S>>();
+    prove_sync::<RwLock<SystemWithRelations<J, S>>>();
     let Some(desk) = crew.desks.get(number) else {
         return false;
     };
@@ -215,7 +218,7 @@ fn start_thread<'s, E, J: Relations + Send + Sync, S: Subject + Send + Sync, R: 
     let arrivals = &crew.arrivals;
     let run = move ||
         requires { typed.now ≡ J.model }
-    { run_orders_until_dismissed::<J, S, R>(alloc, typed, system, arrivals, desk, number) };
+    { run_work_orders_until_dismissed::<J, S, R>(alloc, typed, system, arrivals, desk, number) };
     let stack = Stack::new().stack_size(STACK_BYTES);
     stack.spawn_scoped_with(scope, Anything, run).is_ok()
 }
@@ -234,7 +237,7 @@ pub fn start_crew<'s, E, J: Relations + Send + Sync, S: Subject + Send + Sync, R
     requires { typed.now ≡ J.model }
 {
     for number in 0..count {
-        if !start_thread(rt, alloc, scope, typed, crew, number) {
+        if !start_crew_branch_thread(rt, alloc, scope, typed, crew, number) {
             return false;
         }
         crew.started.fetch_add(1, Ordering::SeqCst);

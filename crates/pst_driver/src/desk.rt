@@ -12,7 +12,7 @@ use std::sync::{Mutex, Wait};
 
 /// A branch to run, and the results that are known before it.
 #[derive(Drop)]
-pub(crate) struct Order {
+pub(crate) struct WorkOrder {
     pub commands: Items<Command>,
     pub known: Items<Option<Value>>,
 }
@@ -20,7 +20,7 @@ pub(crate) struct Order {
 /// A branch that was run. Contracts see it as the order and its replies.
 #[derive(Drop)]
 pub(crate) struct Delivery<J: Relations> {
-    order: Order,
+    order: WorkOrder,
     replies: Items<Reply>,
     of: PhantomData<J>,
 }
@@ -31,10 +31,10 @@ impl<J: Relations> Model for Delivery<J> {
     ghost use Rattle.pst_case.specs.contracts.history.Reply as reply_coding;
     ghost use Rattle.pst_case.specs.declared.history.Reply.{Reply};
     ghost use Rattle.pst_driver.specs.Progress.{PartRuns};
-    ghost use Rattle.pst_driver.specs.contracts.desk.Order as order_coding;
-    ghost use Rattle.pst_driver.specs.declared.desk.Order.{Order};
+    ghost use Rattle.pst_driver.specs.contracts.desk.WorkOrder as order_coding;
+    ghost use Rattle.pst_driver.specs.declared.desk.WorkOrder.{WorkOrder};
 
-    ghost Value = { Order × List Reply };
+    ghost Value = { WorkOrder × List Reply };
 
     ghost coded = { Prim.hlevel (codes, order_coding.the_row.coded, reply_coding.the_row.coded) };
 
@@ -46,7 +46,7 @@ impl<J: Relations> Model for Delivery<J> {
 
 impl<J: Relations> Delivery<J> {
     /// An order that was run, with its replies.
-    pub(crate) fn new(order: Order, replies: Items<Reply>) -> Delivery<J>
+    pub(crate) fn new(order: WorkOrder, replies: Items<Reply>) -> Delivery<J>
         requires { PartRuns J.model J.answering J.failing order.known order.commands replies }
     {
         Delivery {
@@ -57,7 +57,7 @@ impl<J: Relations> Delivery<J> {
     }
 
     /// The replies, if the order was to run these commands with these known results.
-    fn replies_to(
+    fn replies_if_order_matches(
         self,
         commands: &Items<Command>,
         known: &Items<Option<Value>>,
@@ -83,7 +83,7 @@ impl<J: Relations> Delivery<J> {
 pub(crate) struct Desk<J: Relations> {
     pub asked: Bell,
     pub answered: Bell,
-    pub order: Mutex<Option<Order>>,
+    pub order: Mutex<Option<WorkOrder>>,
     pub done: Mutex<Option<Result<Delivery<J>, DriveFault>>>,
 }
 
@@ -99,8 +99,12 @@ impl<J: Relations> Desk<J> {
     }
 
     /// Leaves an order, and rings. Returns the number of rings of the thread before the order.
-    pub(crate) fn give_order<R: Wait>(&self, rt: &R, order: Order) -> u64 {
-        let seen = self.answered.count();
+    pub(crate) fn give_order_and_return_ring_count<R: Wait>(
+        &self,
+        rt: &R,
+        order: WorkOrder,
+    ) -> u64 {
+        let seen = self.answered.ring_count();
         *self.order.lock(rt) = Some(order);
         self.asked.ring();
         seen
@@ -108,7 +112,7 @@ impl<J: Relations> Desk<J> {
 
     /// Waits until the thread has rung more than `seen` times, and takes the replies to these commands.
     /// `NoThread`: the thread ran other ones, or none. `NoMemory`: an allocation of the thread failed.
-    pub(crate) fn await_and_take_replies<R: Wait>(
+    pub(crate) fn await_and_take_matching_replies<R: Wait>(
         &self,
         rt: &R,
         seen: u64,
@@ -119,10 +123,10 @@ impl<J: Relations> Desk<J> {
             (λ rs. PartRuns J.model J.answering J.failing known.now commands.now rs) }
         ensures fault { IfErr result IsPartFault }
     {
-        self.answered.wait_past::<R>(seen);
+        self.answered.wait_for_new_ring::<R>(seen);
         let done = self.done.lock(rt).take();
         match done {
-            Some(Ok(delivery)) => match delivery.replies_to(commands, known) {
+            Some(Ok(delivery)) => match delivery.replies_if_order_matches(commands, known) {
                 Some(replies) => Ok(replies),
                 None => Err(DriveFault::NoThread),
             },

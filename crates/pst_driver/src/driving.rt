@@ -12,7 +12,7 @@ use crate::branches::run_branches_on_threads;
 use crate::fault::DriveFault;
 use crate::part::{add_not_run_replies, call_commands_while_replies_are_values};
 use crate::subject::Subject;
-use pst_case::{Case, Command, History, Reply, results_of};
+use pst_case::{Case, Command, History, Reply, results_of_replies};
 use pst_judge::Valid;
 use pst_model::Typed;
 use pst_system::{BoxedSystem, System};
@@ -95,7 +95,7 @@ fn run_branches_if_prefix_has_values<S: Subject + Sync, R: Threads + Wait>(
     if !are_all_replies_values(prefix) {
         return Ok(not_run_replies_of_branches(alloc, branches)?);
     }
-    let known = results_of(alloc, prefix)?;
+    let known = results_of_replies(alloc, prefix)?;
     run_branches_on_threads(rt, alloc, typed, system, branches, known)
 }
 
@@ -138,7 +138,7 @@ fn drive_shaped_case<S: Subject + Sync, R: Threads + Wait>(
         (S.may_fail system.new) (S.may_fail system.old)
         (S.may_refuse_reset system.new) (S.may_refuse_reset system.old) }
 {
-    if system.restart().is_err() {
+    if system.reset_system().is_err() {
         return Err(DriveFault::ResetFailed);
     }
     let system = &*system;

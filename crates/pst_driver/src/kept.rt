@@ -11,7 +11,7 @@ use crate::branches::{
     add_unknown_results_of_commands, copy_known_results, count_branches_with_commands,
 };
 use crate::crew::Crew;
-use crate::desk::Order;
+use crate::desk::WorkOrder;
 use crate::driving::{
     are_all_replies_values, not_run_replies_of_branches, run_suffix_if_replies_are_values,
 };
@@ -19,7 +19,7 @@ use crate::fault::DriveFault;
 use crate::part::call_commands_while_replies_are_values;
 use crate::relations::Relations;
 use crate::subject::Subject;
-use pst_case::{Case, Command, History, Reply, copy_commands, results_of};
+use pst_case::{Case, Command, History, Reply, copy_commands, results_of_replies};
 use pst_judge::Valid;
 use pst_model::Typed;
 use pst_value::{Items, Value};
@@ -27,14 +27,14 @@ use std::alloc::{AllocError, Global};
 use std::sync::Wait;
 
 /// An order to run the commands with these known results.
-fn order_for_commands(
+fn work_order_for_commands(
     alloc: Global,
     commands: &[Command],
     known: &[Option<Value>],
-) -> Result<Order, AllocError>
+) -> Result<WorkOrder, AllocError>
     ensures { IfOk result (λ order. (order.commands ≡ commands.now) × (order.known ≡ known.now)) }
 {
-    Ok(Order {
+    Ok(WorkOrder {
         commands: copy_commands(alloc, commands)?,
         known: Items::from_vec(copy_known_results(alloc, known)?),
     })
@@ -71,13 +71,13 @@ fn run_branches_with_crew<J: Relations, S: Subject, R: Wait>(
     let Some(desk) = crew.desk_if_thread_has_started(number) else {
         return Err(DriveFault::NoThread);
     };
-    let order = order_for_commands(alloc, first.as_slice(), before.as_slice())?;
-    let seen = desk.give_order(rt, order);
+    let order = work_order_for_commands(alloc, first.as_slice(), before.as_slice())?;
+    let seen = desk.give_order_and_return_ring_count(rt, order);
     let more = run_branches_with_crew(rt, alloc, crew, next, others, known);
     if more.is_err() {
         crew.arrivals.release();
     }
-    let own = desk.await_and_take_replies(rt, seen, first, &before);
+    let own = desk.await_and_take_matching_replies(rt, seen, first, &before);
     let more = match more {
         Ok(more) => more,
         Err(fault) => return Err(fault),
@@ -107,14 +107,14 @@ fn run_crew_branches_if_prefix_has_values<J: Relations, S: Subject, R: Wait>(
     if !are_all_replies_values(prefix) {
         return Ok(not_run_replies_of_branches(alloc, branches)?);
     }
-    let known = results_of(alloc, prefix)?;
+    let known = results_of_replies(alloc, prefix)?;
     crew.arrivals
-        .set_expected(count_branches_with_commands(branches));
+        .set_expected_and_clear_arrived(count_branches_with_commands(branches));
     run_branches_with_crew(rt, alloc, crew, 0, branches, known)
 }
 
 /// Drives a case that has the shape of the model.
-fn drive_with_crew<J: Relations, S: Subject, R: Wait>(
+fn reset_and_drive_case_with_crew<J: Relations, S: Subject, R: Wait>(
     rt: &R,
     alloc: Global,
     crew: &Crew<J, S>,
@@ -126,7 +126,7 @@ fn drive_with_crew<J: Relations, S: Subject, R: Wait>(
         → IsDriven typed.now J.answering J.failing case.now h) }
     ensures fault { IfErr result (λ e. IsDriveFault J.resetting case.now e) }
 {
-    if crew.system.write(rt).restart().is_err() {
+    if crew.system.write(rt).reset_system().is_err() {
         return Err(DriveFault::ResetFailed);
     }
     let held = crew.system.read(rt);
@@ -171,14 +171,14 @@ fn drive_with_crew<J: Relations, S: Subject, R: Wait>(
 }
 
 /// The fault where the threads did not run the branches: `NoThread` if one of these is not empty.
-fn fault_of_unrun_branches(branches: &[Items<Command>]) -> DriveFault
+fn fault_by_whether_branches_have_commands(branches: &[Items<Command>]) -> DriveFault
     ensures { IsBranchFault branches.now result }
 {
     let Some((first, others)) = branches.split_first() else {
         return DriveFault::NoMemory;
     };
     if first.is_empty() {
-        fault_of_unrun_branches(others)
+        fault_by_whether_branches_have_commands(others)
     } else {
         DriveFault::NoThread
     }
@@ -189,7 +189,7 @@ fn fault_of_unrun_branches(branches: &[Items<Command>]) -> DriveFault
 ///
 /// The faults are those of `run`. `NoThread`: the thread of a branch has not started. The history is compared
 /// with the model once more at the end, since no contract here says that the threads run by the same one.
-pub fn drive_valid_case_with_crew<J: Relations, S: Subject, R: Wait>(
+pub fn drive_case_with_crew_and_check<J: Relations, S: Subject, R: Wait>(
     rt: &R,
     alloc: Global,
     crew: &Crew<J, S>,
@@ -204,13 +204,13 @@ pub fn drive_valid_case_with_crew<J: Relations, S: Subject, R: Wait>(
 {
     let shaped = valid.shaped();
     let case = shaped.case();
-    let history = match drive_with_crew(rt, alloc, crew, typed, case) {
+    let history = match reset_and_drive_case_with_crew(rt, alloc, crew, typed, case) {
         Ok(history) => history,
         Err(fault) => return Err(fault),
     };
     if history.matches(typed, shaped) {
         Ok(history)
     } else {
-        Err(fault_of_unrun_branches(case.branches.as_slice()))
+        Err(fault_by_whether_branches_have_commands(case.branches.as_slice()))
     }
 }

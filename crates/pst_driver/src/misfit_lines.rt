@@ -35,7 +35,11 @@ fn printable_beginning_of_spelling(alloc: Global, spelling: &[u8]) -> Result<Str
 }
 
 /// The call as items spell it.
-fn call_text(alloc: Global, model: &Source, call: &RealCall) -> Result<Vec<u8>, AllocError> {
+fn real_call_spelling(
+    alloc: Global,
+    model: &Source,
+    call: &RealCall,
+) -> Result<Vec<u8>, AllocError> {
     let mut text = copy_explanation_text(alloc, "(")?;
     add_str(&mut text, call.name.as_str())?;
     for arg in call.args.as_slice() {
@@ -47,7 +51,7 @@ fn call_text(alloc: Global, model: &Source, call: &RealCall) -> Result<Vec<u8>, 
 }
 
 /// The type as models spell it.
-fn wanted_type_text(alloc: Global, ty: &Ty) -> Result<Vec<u8>, AllocError> {
+fn type_spelling(alloc: Global, ty: &Ty) -> Result<Vec<u8>, AllocError> {
     let mut text = Vec::new(alloc);
     add_tree_spelling(&mut text, &ty_form(alloc, ty)?)?;
     Ok(text)
@@ -57,7 +61,7 @@ fn wanted_type_text(alloc: Global, ty: &Ty) -> Result<Vec<u8>, AllocError> {
 fn misfit_line(alloc: Global, model: &Source, misfit: &Misfit) -> Result<String, AllocError> {
     let call = printable_beginning_of_spelling(
         alloc,
-        call_text(alloc, model, &misfit.call)?.as_slice(),
+        real_call_spelling(alloc, model, &misfit.call)?.as_slice(),
     )?;
     let answer = printable_beginning_of_spelling(
         alloc,
@@ -67,7 +71,7 @@ fn misfit_line(alloc: Global, model: &Source, misfit: &Misfit) -> Result<String,
         Some(operation) => {
             let wanted = printable_beginning_of_spelling(
                 alloc,
-                wanted_type_text(alloc, &operation.result)?.as_slice(),
+                type_spelling(alloc, &operation.result)?.as_slice(),
             )?;
             format!(in alloc; "misfit: {call} answered {answer}, wanted {wanted}\n")
         }

@@ -37,7 +37,7 @@ pub struct Misfits {
     kept: Vec<OnceLock<Misfit>>,
 }
 
-fn copy_call(alloc: Global, call: &RealCall) -> Result<RealCall, AllocError>
+fn copy_real_call(alloc: Global, call: &RealCall) -> Result<RealCall, AllocError>
     ensures { IfOk result (λ copy. copy ≡ call.now) }
 {
     Ok(RealCall {
@@ -49,19 +49,19 @@ fn copy_call(alloc: Global, call: &RealCall) -> Result<RealCall, AllocError>
 
 impl Misfit {
     /// An answer and its call, copied.
-    pub fn copied(alloc: Global, call: &RealCall, answer: &Value) -> Result<Misfit, AllocError>
+    pub fn from_copies(alloc: Global, call: &RealCall, answer: &Value) -> Result<Misfit, AllocError>
         ensures call { IfOk result (λ misfit. misfit.call ≡ call.now) }
         ensures answer { IfOk result (λ misfit. misfit.answer ≡ answer.now) }
     {
         Ok(Misfit {
-            call: copy_call(alloc, call)?,
+            call: copy_real_call(alloc, call)?,
             answer: answer.copy(alloc)?,
         })
     }
 }
 
 /// Whether the answer is of the result type of the operation that is called.
-fn is_of_result_type(alloc: Global, typed: &Typed, call: &RealCall, answer: &Value) -> bool
+fn is_answer_of_result_type(alloc: Global, typed: &Typed, call: &RealCall, answer: &Value) -> bool
     ensures { result ≡ fits_in typed.now [] [] answer.now
         (result_type typed.now (record { op = call.now.op; args = [] })) }
 {
@@ -70,11 +70,11 @@ fn is_of_result_type(alloc: Global, typed: &Typed, call: &RealCall, answer: &Val
         op: call.op,
         args: Items::new(alloc),
     };
-    command.admits(typed, answer)
+    command.admits_result(typed, answer)
 }
 
 impl Misfits {
-    /// No answers. None is noted before `set_model`.
+    /// No answers. None is noted before `set_model_if_unset`.
     pub fn new(alloc: Global) -> Result<Misfits, AllocError> {
         let mut kept = Vec::new(alloc);
         for _ in 0..MOST_KEPT {
@@ -89,7 +89,7 @@ impl Misfits {
     }
 
     /// Compares answers from now on with the result types of the model. The first model stays.
-    pub fn set_model(&self, typed: Typed) {
+    pub fn set_model_if_unset(&self, typed: Typed) {
         let _ = self.typed.try_set(typed);
     }
 
@@ -110,7 +110,7 @@ impl Misfits {
         let Some(place) = self.kept.get(place) else {
             return;
         };
-        if let Ok(misfit) = Misfit::copied(self.alloc, call, answer) {
+        if let Ok(misfit) = Misfit::from_copies(self.alloc, call, answer) {
             let _ = place.try_set(misfit);
         }
     }
@@ -118,7 +118,7 @@ impl Misfits {
     /// Notes the answer to a call, if it is not of the operation's result type.
     pub fn record_answer_if_misfit(&self, call: &RealCall, answer: &Value) {
         if let Some(typed) = self.typed.get() {
-            if !is_of_result_type(self.alloc, typed, call, answer) {
+            if !is_answer_of_result_type(self.alloc, typed, call, answer) {
                 self.count_misfit_and_keep_if_room(call, answer);
             }
         }

@@ -86,9 +86,9 @@ impl<J: Relations, S: Subject> SystemWithRelations<J, S> {
     }
 
     /// Takes the system back to its initial state.
-    pub(crate) fn restart(&mut self) -> Result<(), CallFault>
+    pub(crate) fn reset_system(&mut self) -> Result<(), CallFault>
         ensures { IfErr result J.resetting }
     {
-        self.system.restart()
+        self.system.reset_system()
     }
 }

@@ -12,7 +12,7 @@ use Rattle.pst_operators.proofs.Places.{either}
 use Rattle.pst_operators.specs.Maps.{key_at, with_key, with_value, without_key, without_value, put, put_at, put_key}
 use Rattle.pst_operators.specs.Operators.{integer, same_number, number_of, item, item_at, unary, unary_at, binary, binary_at}
 use Rattle.pst_operators.specs.Outcome.{Outcome, Gives, Faults, Stuck, and_then, or_stuck}
-use Rattle.pst_eval.specs.Reach.{greater, greatest, extent, extent_at, farthest, NoFault, UpTo}
+use Rattle.pst_eval.specs.Reach.{greater, greatest, reach_of_value, extent_at, farthest, NoFault, UpTo}
 use Rattle.pst_value.proofs.Typing.{is_i64-fits}
 use Rattle.pst_value.specs.Equality.{same_key}
 use Rattle.pst_value.specs.Keys.{key_less}
@@ -27,18 +27,18 @@ Layer = Value-F Value
 
 -- how far a value reaches whose layer this is
 abbrev pub far : Layer → ℕ
-far d = extent_at (map-Value Value ℕ extent d)
+far d = extent_at (map-Value Value ℕ reach_of_value d)
 
-pub extent_roll : (d : Layer) → extent (roll-Value d) ≡ far d
-unfolding extent
+pub extent_roll : (d : Layer) → reach_of_value (roll-Value d) ≡ far d
+unfolding reach_of_value
 extent_roll d = fold-roll-Value ℕ extent_at d
 
-pub extent_out : (v : Value) → far (out-Value v) ≡ extent v
-extent_out v = sym (extent_roll (out-Value v)) ∙ ap extent (roll-out-Value v)
+pub extent_out : (v : Value) → far (out-Value v) ≡ reach_of_value v
+extent_out v = sym (extent_roll (out-Value v)) ∙ ap reach_of_value (roll-out-Value v)
 
 -- of a value that is of this form
-pub extent_is : (d : Layer) (v w : Value) → v ≡ w → roll-Value d ≡ w → extent v ≡ far d
-extent_is d v w p q = ap extent (p ∙ sym q) ∙ extent_roll d
+pub extent_is : (d : Layer) (v w : Value) → v ≡ w → roll-Value d ≡ w → reach_of_value v ≡ far d
+extent_is d v w p q = ap reach_of_value (p ∙ sym q) ∙ extent_roll d
 
 -- ---- the greater of two
 
@@ -51,9 +51,9 @@ greater_second a b = either (nat_lt a b) (λ e. rw e (omega arith)) (λ e. rw e 
 pub greater_least : (a b n : ℕ) → a ≤ n → b ≤ n → greater a b ≤ n
 greater_least a b n h k = either (nat_lt a b) (λ e. rw e k) (λ e. rw e h)
 
-pub greatest_extents : (vs : List Value) → greatest (map extent vs) ≡ farthest vs
+pub greatest_extents : (vs : List Value) → greatest (map reach_of_value vs) ≡ farthest vs
 greatest_extents [] = refl
-greatest_extents (v ∷ vs) = ap (greater (extent v)) (greatest_extents vs)
+greatest_extents (v ∷ vs) = ap (greater (reach_of_value v)) (greatest_extents vs)
 
 -- ---- an outcome without turns
 
@@ -98,7 +98,7 @@ len_fine (Value-F.Int z) n h l = tt
 len_fine (Value-F.Bool b) n h l = tt
 len_fine (Value-F.Text t) n h l = integer_fine (pos (length t)) n h l
 len_fine (Value-F.Tuple vs) n h l = tt
-len_fine (Value-F.List vs) n h l = let e = length-map vs extent in integer_fine (pos (length vs)) n (omega (arith, e, h)) l
+len_fine (Value-F.List vs) n h l = let e = length-map vs reach_of_value in integer_fine (pos (length vs)) n (omega (arith, e, h)) l
 len_fine (Value-F.Map ks vs) n h l = tt
 len_fine (Value-F.Var k) n h l = tt
 len_fine (Value-F.Ref k v) n h l = tt
@@ -108,9 +108,9 @@ numbered_fine : (vs : List Value) (place n : ℕ) → farthest vs ≤ n → Fine
 numbered_fine [] zero n h = tt
 numbered_fine [] (suc place) n h = tt
 numbered_fine (v ∷ vs) zero n h = tt
-numbered_fine (v ∷ vs) (suc zero) n h = let g = greater_first (extent v) (farthest vs) in omega (arith, g, h)
+numbered_fine (v ∷ vs) (suc zero) n h = let g = greater_first (reach_of_value v) (farthest vs) in omega (arith, g, h)
 numbered_fine (v ∷ vs) (suc (suc place)) n h =
-    let g = greater_second (extent v) (farthest vs) in numbered_fine vs (suc place) n (omega (arith, g, h))
+    let g = greater_second (reach_of_value v) (farthest vs) in numbered_fine vs (suc place) n (omega (arith, g, h))
 
 item_fine : (place : ℕ) (d : Layer) (n : ℕ) → far d ≤ n → Fine (UpTo n) (item_at place d)
 item_fine place (Value-F.Int z) n h = tt
@@ -171,11 +171,11 @@ texts_fine x y n h l =
 lists_fine : (x y : List Value) (n : ℕ) → length x + length y ≤ n → n ≤ 65536 → Fine (UpTo n) (binary_at Append (Value-F.List x) (Value-F.List y))
 lists_fine x y n h l =
     let e : nat_le (length x + length y) 65536 ≡ true = le-leb _ _ (omega (arith, h, l)) in
-    rw e (gives (Value-F.List (x ++ y)) n (let q = length-append x y in let r = length-map (x ++ y) extent in omega (arith, q, r, h)))
+    rw e (gives (Value-F.List (x ++ y)) n (let q = length-append x y in let r = length-map (x ++ y) reach_of_value in omega (arith, q, r, h)))
 
 append_fine : (d e : Layer) (a b n : ℕ) → far d ≤ a → far e ≤ b → a + b ≤ n → n ≤ 65536 → Fine (UpTo n) (binary_at Append d e)
 append_fine (Value-F.Text x) (Value-F.Text y) a b n h k s l = texts_fine x y n (omega (arith, h, k, s)) l
-append_fine (Value-F.List x) (Value-F.List y) a b n h k s l = let p = length-map x extent in let q = length-map y extent in lists_fine x y n (omega (arith, p, q, h, k, s)) l
+append_fine (Value-F.List x) (Value-F.List y) a b n h k s l = let p = length-map x reach_of_value in let q = length-map y reach_of_value in lists_fine x y n (omega (arith, p, q, h, k, s)) l
 append_fine (Value-F.Text x) (Value-F.Int y) a b n h k s l = tt
 append_fine (Value-F.Text x) (Value-F.Bool y) a b n h k s l = tt
 append_fine (Value-F.Text x) (Value-F.Tuple y) a b n h k s l = tt

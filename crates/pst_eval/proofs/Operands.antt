@@ -15,7 +15,7 @@ use Rattle.pst_operators.proofs.Keeping.{with-map, without-map, beside-map}
 use Rattle.pst_operators.specs.Maps.{map_of, beside, with_key, with_value, without_key, without_value, get, has, put_key, put, del, keys}
 use Rattle.pst_operators.specs.Operators.{int, bool, text, list, integer, truth_of, truth_at, items_of, items_at, unary, item as item_of, binary, binary_at, divided, joined_texts, joined_lists, nth, range, count_up, append}
 use Rattle.pst_operators.specs.Outcome.{Outcome, Gives, and_then, or_fault, or_stuck}
-use Rattle.pst_model.specs.Kinds.{holds_ref}
+use Rattle.pst_model.specs.Kinds.{holds_ref_or_call}
 use Rattle.pst_model.specs.Rules.{OperatesOnOne, operates_not, operates_len_text, operates_len_list, operates_deref, operates_keys, OperatesOnTwo, operates_arithmetic, operates_order_int, operates_order_text, operates_equal, operates_same, operates_append_text, operates_append_list, operates_nth, operates_get, operates_has, operates_del, operates_range, key_type, is_arithmetic, is_order}
 use Rattle.pst_eval.proofs.Values.{sub_int, sub_bool, sub_text, sub_list, sub_tuple, sub_map, sub_key, sub_keys, number_kept, stays}
 use Rattle.pst_eval.specs.Substituted.{mapped}
@@ -221,7 +221,7 @@ module _ (rs : List (Option Value)) where
         let n = text_form free vars ops w g in
         rw (m.1, n.1, sub_text rs m.0, sub_text rs n.0) (order_text_same op m.0 n.0 h t)
     binary_commutes _ _ _ _ v w t (operates_equal T r) f g =
-        let none = not_true (holds_ref T) r in
+        let none = not_true (holds_ref_or_call T) r in
         rw (stays rs free vars ops v T f none, stays rs free vars ops w T g none) (gives (bool (same_value v w)) (sub_bool rs (same_value v w)) t)
       where
         not_true : (b : Bool) → not b ≡ true → b ≡ false

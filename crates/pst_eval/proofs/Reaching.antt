@@ -18,8 +18,8 @@ use Rattle.pst_operators.specs.Maps.{put}
 use Rattle.pst_operators.specs.Operators.{bool, truth_at, item, unary, binary}
 use Rattle.pst_operators.specs.Outcome.{Outcome, Gives, Faults, Stuck, and_then}
 use Rattle.pst_eval.proofs.Bounding.{Layer, far, extent_roll, greater_first, greater_second, greater_least, greatest_extents, Fine, lifted, item_of, unary_not, unary_len, binary_add, binary_sub, binary_append, binary_del, put_up_to}
-use Rattle.pst_eval.specs.Reach.{greater, extent, farthest, Within, NoFault, Safe, UpTo, NameReaches, Reaches, AllReach}
-use Rattle.pst_eval.specs.declared.reach.Names.{Names, With'}
+use Rattle.pst_eval.specs.Reach.{greater, reach_of_value, farthest, Within, NoFault, Safe, UpTo, NameReaches, Reaches, AllReach}
+use Rattle.pst_eval.specs.declared.reach.NamesWithReach.{NamesWithReach, With'}
 use Rattle.pst_value.specs.declared.key.KeyTy.{KeyTy}
 use Rattle.pst_value.specs.declared.ty.Ty.{Ty}
 use Rattle.pst_value.specs.declared.value.Value.{Value, out-Value, roll-Value}
@@ -52,12 +52,12 @@ wider a b (Gives r) l h = omega (arith, l, h)
 wider a b (Faults why) l h = h
 wider a b Stuck l h = tt
 
-pub reaches_wider : (names : Names) (e : Expr) (a b : ℕ) → a ≤ b → Reaches names e a → Reaches names e b
+pub reaches_wider : (names : NamesWithReach) (e : Expr) (a b : ℕ) → a ≤ b → Reaches names e a → Reaches names e b
 reaches_wider names e a b l h = λ items F env w t. wider a b _ l (h items F env w t)
 
 -- ---- forms
 
-module _ (names : Names) where
+module _ (names : NamesWithReach) where
   -- by the form of the expression
   by_form : (d : Expr-F Clause Expr) (e : Expr) (reach : ℕ) → roll-Expr d ≡ e
       → ((items : List Item) (F : List Called) (env : Env) → Within names env → Safe (UpTo reach) (mean_at items F (map-Expr Clause Expr Part Mean (part items F) (mean items F) d) env))
@@ -81,7 +81,7 @@ module _ (names : Names) where
   truth_then Q e reach items F env t f h w k =
       followed (λ b. Unit {0}) Q (truth (mean items F e) env t) _ (followed (UpTo reach) (λ b. Unit {0}) _ _ (h items F env w t) (λ v u q. truth_lifted (out-Value v) u)) (λ b u q. k b u)
 
-  pub reaches_let : (x : List ℕ) (e b : Expr) (inner : Names) (a n : ℕ) → ((env : Env) (v : Value) → Within names env → UpTo a v → Within inner ((x, v) ∷ env)) → Reaches names e a → Reaches inner b n → Reaches names (expr.Let x e b) n
+  pub reaches_let : (x : List ℕ) (e b : Expr) (inner : NamesWithReach) (a n : ℕ) → ((env : Env) (v : Value) → Within names env → UpTo a v → Within inner ((x, v) ∷ env)) → Reaches names e a → Reaches inner b n → Reaches names (expr.Let x e b) n
   reaches_let x e b inner a n within h k = by_form (Expr-F.Let x e b) _ _ (expr.rolls-Let x e b) (λ items F env w t.
       followed (UpTo a) (UpTo n) _ _ (h items F env w t) (λ v u q. k items F ((x, v) ∷ env) (within env v w q) u))
 
@@ -134,7 +134,7 @@ module _ (names : Names) where
       again v q (all_from (done ++ v ∷ []) (map (mean items F) es) env u) (each_up_to es n items F env (done ++ v ∷ []) u h.1 w))
     where
       again : (v : Value) → UpTo n v → (o : Outcome (List Value × ℕ)) → NoFault (AreUpTo n (done ++ v ∷ []) (length es)) o → NoFault (AreUpTo n done (length (e ∷ es))) o
-      again v q (Gives r) p = (v ∷ p.0, p.1 ∙ append_assoc done (v ∷ []) p.0, ap suc p.2, greater_least (extent v) (farthest p.0) n q p.3)
+      again v q (Gives r) p = (v ∷ p.0, p.1 ∙ append_assoc done (v ∷ []) p.0, ap suc p.2, greater_least (reach_of_value v) (farthest p.0) n q p.3)
       again v q (Faults why) p = p
       again v q Stuck p = tt
 
@@ -146,7 +146,7 @@ module _ (names : Names) where
   pub reaches_list : (T : Ty) (es : List Expr) (n : ℕ) → AllReach names es n → Reaches names (expr.List T es) (length es)
   reaches_list T es n h = by_form (Expr-F.List T es) _ _ (expr.rolls-List T es) (λ items F env w t.
       followed (AreUpTo n [] (length es)) (UpTo (length es)) _ _ (each_up_to es n items F env [] t h w) (λ vs u q.
-      let e = length-map q.0 extent in rw q.1 (rolled (Value-F.List q.0) (length es) (let f = q.2 in omega (arith, e, f)))))
+      let e = length-map q.0 reach_of_value in rw q.1 (rolled (Value-F.List q.0) (length es) (let f = q.2 in omega (arith, e, f)))))
 
   pub reaches_map : (k : KeyTy) (T : Ty) → Reaches names (expr.Map k T) 0
   reaches_map k T = by_form (Expr-F.Map k T) _ _ (expr.rolls-Map k T) (λ items F env w t. rolled (Value-F.Map [] []) 0 (omega arith))
@@ -171,7 +171,7 @@ module _ (names : Names) where
 
 -- ---- what the code finds
 
-module _ (names : Names) where
+module _ (names : NamesWithReach) where
   -- of an expression that is of this form
   pub reaches_as : (x e : Expr) (a b : ℕ) → x ≡ e → a ≡ b → Reaches names e b → Reaches names x a
   reaches_as x e a b p q h =

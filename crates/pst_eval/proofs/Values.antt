@@ -2,7 +2,7 @@
 use Rattle.std.proofs.Common.{◌≡◌, ℕ, ℤ, Bool, true, false, ◌||◌, List, [], ◌∷◌, map, Option, Some, None, refl, sym, ap, ◌∙◌, nat_le, length}
 use Rattle.std.specs.List.{AllByRecursion, list_all, list_any}
 use Rattle.pst_eval.proofs.Fitting.{both}
-use Rattle.pst_model.specs.Kinds.{holds_ref, holds_ref_at}
+use Rattle.pst_model.specs.Kinds.{holds_ref_or_call, holds_ref_at}
 use Rattle.pst_operators.specs.Maps.{map_of, value_of, keys}
 use Rattle.pst_operators.specs.Operators.{int, bool, text, list, tuple, call, number_at, number_of}
 use Rattle.pst_value.proofs.Forms.{value_induction}
@@ -87,11 +87,11 @@ module _ (rs : List (Option Value)) where
 -- ---- types without references
 
 ref_in : Ty-F Ty → Bool
-ref_in x = holds_ref_at (map-Ty Ty Bool holds_ref x)
+ref_in x = holds_ref_at (map-Ty Ty Bool holds_ref_or_call x)
 
-holds_ref-out : (t : Ty) → holds_ref t ≡ ref_in (out-Ty t)
-unfolding holds_ref ref_in
-holds_ref-out t = ap holds_ref (sym (roll-out-Ty t)) ∙ fold-roll-Ty Bool holds_ref_at (out-Ty t)
+holds_ref_or_call-out : (t : Ty) → holds_ref_or_call t ≡ ref_in (out-Ty t)
+unfolding holds_ref_or_call ref_in
+holds_ref_or_call-out t = ap holds_ref_or_call (sym (roll-out-Ty t)) ∙ fold-roll-Ty Bool holds_ref_at (out-Ty t)
 
 or_none : (a b : Bool) → (a || b) ≡ false → (a ≡ false) × (b ≡ false)
 or_none true b h = absurd (cc)
@@ -103,19 +103,19 @@ module _ (rs : List (Option Value)) (free vars : List Ty) (ops : List (List Ty))
 
   -- a value of a type without references stays
   abbrev Stays : Value → Type 0
-  Stays v = (t : Ty) → test v t ≡ true → holds_ref t ≡ false → substituted rs v ≡ v
+  Stays v = (t : Ty) → test v t ≡ true → holds_ref_or_call t ≡ false → substituted rs v ≡ v
 
-  each_stays : (xs : List Value) (ts : List Ty) → AllByRecursion Stays xs → fit_each (map test xs) ts ≡ true → list_any (λ held. held) (map holds_ref ts) ≡ false → map (substituted rs) xs ≡ xs
+  each_stays : (xs : List Value) (ts : List Ty) → AllByRecursion Stays xs → fit_each (map test xs) ts ≡ true → list_any (λ held. held) (map holds_ref_or_call ts) ≡ false → map (substituted rs) xs ≡ xs
   each_stays [] ts h e r = refl
   each_stays (x ∷ xs) [] h e r = absurd (cc)
   each_stays (x ∷ xs) (t ∷ ts) h e r =
       let p = both (test x t) _ e in
-      let q = or_none (holds_ref t) _ r in
+      let q = or_none (holds_ref_or_call t) _ r in
       let first : substituted rs x ≡ x = h.0 t p.0 q.0 in
       let rest : map (substituted rs) xs ≡ xs = each_stays xs ts h.1 p.1 q.1 in
       cc
 
-  all_stay : (xs : List Value) (t : Ty) → AllByRecursion Stays xs → list_all (λ f. f t) (map test xs) ≡ true → holds_ref t ≡ false → map (substituted rs) xs ≡ xs
+  all_stay : (xs : List Value) (t : Ty) → AllByRecursion Stays xs → list_all (λ f. f t) (map test xs) ≡ true → holds_ref_or_call t ≡ false → map (substituted rs) xs ≡ xs
   all_stay [] t h e r = refl
   all_stay (x ∷ xs) t h e r =
       let p = both (test x t) _ e in
@@ -196,14 +196,14 @@ module _ (rs : List (Option Value)) (free vars : List Ty) (ops : List (List Ty))
     int = λ n t e r. substituted-Int rs n;
     truth = λ b t e r. substituted-Truth rs b;
     text = λ s t e r. substituted-Text rs s;
-    tuple = λ xs h t e r. substituted-Tuple rs xs ∙ ap Tuple (tuple_stays xs h (out-Ty t) (sym (fits-Tuple free vars ops xs t) ∙ e) (sym (holds_ref-out t) ∙ r));
-    items = λ xs h t e r. substituted-ListOf rs xs ∙ ap ListOf (list_stays xs h (out-Ty t) (sym (fits-ListOf free vars ops xs t) ∙ e) (sym (holds_ref-out t) ∙ r));
+    tuple = λ xs h t e r. substituted-Tuple rs xs ∙ ap Tuple (tuple_stays xs h (out-Ty t) (sym (fits-Tuple free vars ops xs t) ∙ e) (sym (holds_ref_or_call-out t) ∙ r));
+    items = λ xs h t e r. substituted-ListOf rs xs ∙ ap ListOf (list_stays xs h (out-Ty t) (sym (fits-ListOf free vars ops xs t) ∙ e) (sym (holds_ref_or_call-out t) ∙ r));
     maps = λ ks xs h t e r.
         substituted-MapOf rs ks xs
         ∙ ap (MapOf ks)
         (map_stays ks xs h (out-Ty t) (sym (fits-MapOf free vars ops ks xs t) ∙ e)
-        (sym (holds_ref-out t) ∙ r));
-    var = λ n t e r. absurd (var_never n (out-Ty t) (sym (fits-Var free vars ops n t) ∙ e) (sym (holds_ref-out t) ∙ r));
-    ref = λ n v h t e r. absurd (ref_never n v (out-Ty t) (sym (fits-Ref free vars ops n v t) ∙ e) (sym (holds_ref-out t) ∙ r));
-    call = λ n xs h t e r. absurd (call_never n xs (out-Ty t) (sym (fits-Call free vars ops n xs t) ∙ e) (sym (holds_ref-out t) ∙ r));
+        (sym (holds_ref_or_call-out t) ∙ r));
+    var = λ n t e r. absurd (var_never n (out-Ty t) (sym (fits-Var free vars ops n t) ∙ e) (sym (holds_ref_or_call-out t) ∙ r));
+    ref = λ n v h t e r. absurd (ref_never n v (out-Ty t) (sym (fits-Ref free vars ops n v t) ∙ e) (sym (holds_ref_or_call-out t) ∙ r));
+    call = λ n xs h t e r. absurd (call_never n xs (out-Ty t) (sym (fits-Call free vars ops n xs t) ∙ e) (sym (holds_ref_or_call-out t) ∙ r));
   })

@@ -22,7 +22,11 @@ pub fn empty_map(alloc: Global) -> Result<Value, Stop>
 }
 
 /// A call of the operation of the name, as a value.
-pub fn call_of(items: &[Item], name: &[u8], arguments: Items<Value>) -> Result<Value, Stop>
+pub fn operation_call_as_value(
+    items: &[Item],
+    name: &[u8],
+    arguments: Items<Value>,
+) -> Result<Value, Stop>
     ensures { Answers (spec.call_of (operation_number items.now name.now) arguments) result }
 {
     let Some(number) = operation_number(items, name) else {

@@ -5,17 +5,17 @@ ghost use Rattle.pst_eval.specs.Env.{env_of, mean_in, parts_in, functions_in};
 ghost use Rattle.pst_model.specs.declared.expr.Expr as form;
 ghost use Rattle.pst_operators.specs.Answers.{Meets};
 
-use crate::building::{call_of, empty_map};
+use crate::building::{empty_map, operation_call_as_value};
 use crate::context::{Context, split_first, split_last};
 use crate::env::{Env, look_up};
 use pst_model::{Binary, Clause, Expr, Item};
 use pst_operators::{
-    Stop, append, binary_of_owned, item, items_of, put, take_turn, truth_of, unary,
+    Stop, append, apply_binary_operator_to_owned, apply_unary_operator, item, items_of, put,
+    take_turn, truth_of,
 };
 use pst_value::{Boxed, Items, Text, Value};
 
-/// The value of an expression in its environment. Each turn is taken from `turns`, which is unspecified after
-/// an `Err`.
+/// The value of an expression in its environment. Takes each turn from `turns`, which is unspecified after `Err`.
 #[cycle(eval)]
 pub fn eval(
     expr: &Expr,
@@ -36,7 +36,7 @@ pub fn eval(
         Expr::Or(first, second) => eval_or(first, second, context, env, turns),
         Expr::Unary(operator, operand) => {
             let value = eval(operand.get(), context, env, turns)?;
-            unary(context.alloc, *operator, &value)
+            apply_unary_operator(context.alloc, *operator, &value)
         }
         Expr::Map(_, _) => empty_map(context.alloc),
         Expr::Put(map, key, value) => eval_put(map, key, value, context, env, turns),
@@ -50,14 +50,14 @@ pub fn eval(
         }
         Expr::List(_, exprs) => Ok(Value::List(eval_all(exprs.as_slice(), context, env, turns)?)),
         Expr::For(clauses, body) => {
-            comprehension(clauses.as_slice(), body.get(), context, env, turns)
+            eval_comprehension(clauses.as_slice(), body.get(), context, env, turns)
         }
         Expr::Fold(name, list, acc, first, body) => {
             eval_fold(name, list, acc, first, body, context, env, turns)
         }
         Expr::Call(name, exprs) => {
             let arguments = eval_all(exprs.as_slice(), context, env, turns)?;
-            call_of(context.items, name.as_bytes(), arguments)
+            operation_call_as_value(context.items, name.as_bytes(), arguments)
         }
         Expr::Apply(name, exprs) => {
             let arguments = eval_all(exprs.as_slice(), context, env, turns)?;
@@ -178,7 +178,7 @@ fn eval_binary(
 {
     let left = eval(left.get(), context, env, turns)?;
     let right = eval(right.get(), context, env, turns)?;
-    binary_of_owned(context.alloc, operator, left, right)
+    apply_binary_operator_to_owned(context.alloc, operator, left, right)
 }
 
 /// The value of an expression, as a bool.
@@ -213,7 +213,7 @@ fn eval_all(
 }
 
 #[cycle(eval)]
-fn comprehension(
+fn eval_comprehension(
     clauses: &[Clause],
     body: &Expr,
     context: &Context<'_>,
@@ -281,8 +281,7 @@ fn eval_clauses(
     }
 }
 
-/// What the other clauses append for each item. What is evaluated, its names and what is built so far are parameters of
-/// their own, since the contract names each.
+/// What the other clauses append for each item. Each parameter is one that the contract names.
 #[cycle(eval)]
 fn eval_clauses_for_each(
     rest: &[Clause],
@@ -307,8 +306,7 @@ fn eval_clauses_for_each(
     Ok(built)
 }
 
-/// What a fold builds of the items of a list. The parts of the form are parameters of their own, since the contract
-/// names each.
+/// What a fold builds of the items of a list. The contract names each part of the form, so each is a parameter.
 #[cycle(eval)]
 fn eval_fold(
     name: &Text,

@@ -19,7 +19,8 @@ pub use env::Env;
 pub use evaluation::eval;
 pub use place::{Callback, FaultPlace};
 pub use plain::Plain;
-pub use reach::{Names, extent, greater, reach_of};
+pub use reach::{NamesWithReach, greater, reach_of_expression, reach_of_value};
 pub use symbolic::{
-    command_is_real, init_is_real, next_is_real, pre_is_real, symbolic_equals_real,
+    real_command_equals_symbolic_command, real_init_equals_symbolic_init,
+    real_next_equals_symbolic_next, real_pre_equals_symbolic_pre, symbolic_evaluation_equals_real,
 };

@@ -8,7 +8,9 @@ use crate::callbacks::{Answer, Callbacks};
 use crate::context::Context;
 use crate::env::Env;
 use crate::evaluation::eval;
-use pst_model::{Expr, Source, Typed, calls_of, initial_state_of, operation_of};
+use pst_model::{
+    Expr, Source, Typed, find_command_expression, find_initial_state_expression, operation_of,
+};
 use pst_operators::Stop;
 use pst_value::Value;
 use std::alloc::{AllocError, Global};
@@ -60,7 +62,7 @@ impl<'a> Callbacks for Plain<'a> {
 
     fn init(&self, alloc: Global) -> Answer {
         let model = self.typed.source();
-        let Some(opening) = initial_state_of(model.items.as_slice()) else {
+        let Some(opening) = find_initial_state_expression(model.items.as_slice()) else {
             unreachable!()
         };
         eval_with_max_turns(model, opening, alloc, &Env::Frame(&[], &[]))
@@ -68,7 +70,7 @@ impl<'a> Callbacks for Plain<'a> {
 
     fn command(&self, alloc: Global, state: &Value) -> Answer {
         let model = self.typed.source();
-        let Some(calls) = calls_of(model.items.as_slice()) else {
+        let Some(calls) = find_command_expression(model.items.as_slice()) else {
             unreachable!()
         };
         let frame = Env::Frame(&[], &[]);

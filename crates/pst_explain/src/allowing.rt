@@ -8,12 +8,13 @@ use crate::bounded::StepLimitedCallbacks;
 use pst_case::{History, Reply};
 use pst_eval::{Callbacks, Env};
 use pst_reasons::{
-    AllowedValues, AnswerQuestion, Candidates, RecordedRun, append_numbers_without,
+    AllowedValues, AnswerProposer, AnswerQuestion, RecordedRun, append_numbers_without,
     find_allowed_values, interleaving_where_answers_are_wrong,
 };
 use pst_scene::{
-    Call, Falsity, Scene, falsity_of_postcondition, operation_of_call, recorded_arguments,
+    Call, Falsity, Scene, arguments_with_recorded_results, operation_of_call,
     reply_wanted_by_postcondition, state_before_call_in_interleaving,
+    why_postcondition_is_not_true,
 };
 use pst_value::Value;
 use std::alloc::{AllocError, Global};
@@ -25,7 +26,7 @@ const MOST: u32 = 8;
 #[derive(Drop)]
 pub struct WrongAnswer<'a> {
     /// The branches, from 0, of the letters that name the interleaving.
-    pub word: Vec<usize>,
+    pub interleaving: Vec<usize>,
     /// The state before the command.
     pub state: Value,
     pub falsity: Falsity<'a>,
@@ -48,7 +49,7 @@ fn opposite_bool_reply(call: &Call<'_>) -> Option<Value> {
 }
 
 /// Returns a reply that may be right on `state`, the state before the command.
-fn candidate_reply_on_state(
+fn wanted_reply_or_opposite_bool(
     alloc: Global,
     scene: &Scene<'_>,
     call: &Call<'_>,
@@ -57,7 +58,7 @@ fn candidate_reply_on_state(
     let Some(operation) = operation_of_call(scene, call) else {
         return Ok(None);
     };
-    let args = recorded_arguments(alloc, scene, call)?;
+    let args = arguments_with_recorded_results(alloc, scene, call)?;
     let frame = Env::Frame(operation.params.as_slice(), args.as_slice());
     let env = Env::With(b"s", &*state, &frame);
     match reply_wanted_by_postcondition(alloc, scene.model, &operation.post, &env)? {
@@ -66,30 +67,41 @@ fn candidate_reply_on_state(
     }
 }
 
-impl<'s, 'a, C: Callbacks> Candidates for ReplyProposer<'s, 'a, C> {
-    fn candidate(&self, alloc: Global, word: &[usize]) -> Result<Option<Value>, AllocError> {
-        self.callbacks.take_steps_of_calls(self.scene.all.len())?;
-        match state_before_call_in_interleaving(alloc, self.scene, word, self.call)? {
-            Some(state) => candidate_reply_on_state(alloc, self.scene, self.call, &state),
+impl<'s, 'a, C: Callbacks> AnswerProposer for ReplyProposer<'s, 'a, C> {
+    fn propose_answer_for_interleaving(
+        &self,
+        alloc: Global,
+        interleaving: &[usize],
+    ) -> Result<Option<Value>, AllocError> {
+        self.callbacks
+            .charge_calls_like_longest_or_fail(self.scene.all.len())?;
+        match state_before_call_in_interleaving(alloc, self.scene, interleaving, self.call)? {
+            Some(state) => wanted_reply_or_opposite_bool(alloc, self.scene, self.call, &state),
             None => Ok(None),
         }
     }
 }
 
-/// Returns why the postcondition of a command is not true in the interleaving `word`. `None` if a callback faults
+/// Returns why the postcondition of a command is not true in `interleaving`. `None` if a callback faults
 /// before the command.
-fn wrong_answer_unless_fault_before_call<'a>(
+fn why_answer_is_wrong_in_interleaving<'a>(
     alloc: Global,
     scene: &Scene<'a>,
     call: &Call<'_>,
-    word: Vec<usize>,
+    interleaving: Vec<usize>,
 ) -> Result<Option<WrongAnswer<'a>>, AllocError> {
-    let Some(state) = state_before_call_in_interleaving(alloc, scene, word.as_slice(), call)? else {
+    let Some(state) = state_before_call_in_interleaving(
+        alloc,
+        scene,
+        interleaving.as_slice(),
+        call,
+    )?
+    else {
         return Ok(None);
     };
-    let falsity = falsity_of_postcondition(alloc, scene, call, &state)?;
+    let falsity = why_postcondition_is_not_true(alloc, scene, call, &state)?;
     Ok(Some(WrongAnswer {
-        word,
+        interleaving,
         state,
         falsity,
     }))
@@ -97,7 +109,7 @@ fn wrong_answer_unless_fault_before_call<'a>(
 
 /// Returns why the postcondition of a command is not true in the lexicographically first interleaving in which the rest
 /// of the core is right and it is not, if there is one. `AllocError` too if `callbacks` have no steps left.
-pub fn wrong_answer_if_rest_is_right<'a, C: Callbacks>(
+pub fn why_answer_contradicts_rest_of_core<'a, C: Callbacks>(
     callbacks: &StepLimitedCallbacks<'_, C>,
     alloc: Global,
     scene: &Scene<'a>,
@@ -126,9 +138,9 @@ pub fn wrong_answer_if_rest_is_right<'a, C: Callbacks>(
         number,
     };
     let merge = interleaving_where_answers_are_wrong(&question, &[])?;
-    callbacks.take_steps_of_calls(scene.all.len())?;
+    callbacks.charge_calls_like_longest_or_fail(scene.all.len())?;
     match merge {
-        Some(word) => wrong_answer_unless_fault_before_call(alloc, scene, call, word),
+        Some(interleaving) => why_answer_is_wrong_in_interleaving(alloc, scene, call, interleaving),
         None => Ok(None),
     }
 }
@@ -162,8 +174,8 @@ pub fn allowed_answers_for_explanation<C: Callbacks>(
         scene,
         call,
     };
-    callbacks.set_extra_calls_charged_to_next(1);
+    callbacks.set_extra_calls_charged_per_state(1);
     let found = find_allowed_values(&run, scene.model, core, call.number, &wanted, MOST)?;
-    callbacks.set_extra_calls_charged_to_next(0);
+    callbacks.set_extra_calls_charged_per_state(0);
     Ok(found)
 }

@@ -17,7 +17,7 @@ const VALUES_IN_A_STEP: u64 = 16;
 
 /// Callbacks with a limit on their steps. A call of a callback takes one step, one more for each of its turns, and one
 /// more for every 16 values in the last state. If no steps are left, a call returns `AllocError`, which ends what calls
-/// it, and `has_run_out_of_steps` returns true from then on.
+/// it, and `has_failed_for_lack_of_steps` returns true from then on.
 #[derive(Drop)]
 pub struct StepLimitedCallbacks<'a, C> {
     callbacks: &'a C,
@@ -44,12 +44,12 @@ fn count_steps_of_ended_callback(ended: &Result<(Value, u32), Fault>) -> u64 {
 /// The size of a value, for counting steps: 1 for each value in it and for itself, and 1 for each 8 bytes of a text. Keys
 /// are free.
 #[cycle(size)]
-fn value_size(value: &Value) -> u64 {
+fn value_size_for_step_limit(value: &Value) -> u64 {
     let inner = match value {
-        Value::Tuple(parts) => total_value_size(parts.as_slice()),
-        Value::List(parts) => total_value_size(parts.as_slice()),
-        Value::Map(_, values) => total_value_size(values.get().as_slice()),
-        Value::Ref(_, value) => value_size(value.get()),
+        Value::Tuple(parts) => total_value_size_for_step_limit(parts.as_slice()),
+        Value::List(parts) => total_value_size_for_step_limit(parts.as_slice()),
+        Value::Map(_, values) => total_value_size_for_step_limit(values.get().as_slice()),
+        Value::Ref(_, value) => value_size_for_step_limit(value.get()),
         Value::Text(text) => (text.as_bytes().len() / 8) as u64,
         _ => 0,
     };
@@ -58,10 +58,10 @@ fn value_size(value: &Value) -> u64 {
 
 /// How many values are in `values`, themselves among them.
 #[cycle(size)]
-fn total_value_size(values: &[Value]) -> u64 {
+fn total_value_size_for_step_limit(values: &[Value]) -> u64 {
     let mut sum: u64 = 0;
     for value in values {
-        sum = sum.saturating_add(value_size(value));
+        sum = sum.saturating_add(value_size_for_step_limit(value));
     }
     sum
 }
@@ -87,12 +87,12 @@ impl<'a, C: Callbacks> StepLimitedCallbacks<'a, C> {
     }
 
     /// Whether a call had no steps left.
-    pub fn has_run_out_of_steps(&self) -> bool {
+    pub fn has_failed_for_lack_of_steps(&self) -> bool {
         self.has_run_out.get()
     }
 
-    /// Returns `AllocError` if no steps are left, and `has_run_out_of_steps` is true from then on. Takes no steps.
-    pub fn fail_if_out_of_steps(&self) -> Result<(), AllocError> {
+    /// Returns `AllocError` if no steps are left, and `has_failed_for_lack_of_steps` is true from then on. Takes no steps.
+    pub fn note_and_fail_if_out_of_steps(&self) -> Result<(), AllocError> {
         if self.steps_left.get() == 0 {
             self.has_run_out.set(true);
             return Err(AllocError);
@@ -101,45 +101,45 @@ impl<'a, C: Callbacks> StepLimitedCallbacks<'a, C> {
     }
 
     /// Takes `steps` steps, or those that are left.
-    fn take_steps(&self, steps: u64) {
+    fn charge_steps_saturating(&self, steps: u64) {
         let left = self.steps_left.get();
         self.steps_left.set(left.saturating_sub(steps));
     }
 
     /// Takes the steps of `calls` callbacks that something else evaluates. Each counts as the longest call so far.
     /// Returns `AllocError` if no steps are left.
-    pub fn take_steps_of_calls(&self, calls: usize) -> Result<(), AllocError> {
-        self.fail_if_out_of_steps()?;
+    pub fn charge_calls_like_longest_or_fail(&self, calls: usize) -> Result<(), AllocError> {
+        self.note_and_fail_if_out_of_steps()?;
         let steps = self.most_of_a_call.get().saturating_mul(calls as u64);
-        self.take_steps(steps);
+        self.charge_steps_saturating(steps);
         Ok(())
     }
 
     /// From now on a call of `next` takes the steps of `calls` further callbacks, which something else evaluates.
-    pub fn set_extra_calls_charged_to_next(&self, calls: u64) {
+    pub fn set_extra_calls_charged_per_state(&self, calls: u64) {
         self.further_calls.set(calls);
     }
 
     /// Takes the steps of a call that ended, with those for the size of the last state. Keeps their number if it is the
     /// greatest of a call so far.
-    fn take_steps_and_note_longest_call(&self, ended: &Result<(Value, u32), Fault>) {
+    fn charge_call_and_note_longest(&self, ended: &Result<(Value, u32), Fault>) {
         let steps = count_steps_of_ended_callback(ended).saturating_add(self.steps_of_state.get());
         if steps > self.most_of_a_call.get() {
             self.most_of_a_call.set(steps);
         }
-        self.take_steps(steps);
+        self.charge_steps_saturating(steps);
     }
 
     /// Takes the steps of a call that ended, and whose value, if it does not fault, is a state: this call and those
     /// after it take the steps for its size. Then takes the steps of the further calls.
-    fn take_steps_and_measure_state(&self, ended: &Result<(Value, u32), Fault>) {
+    fn measure_state_and_charge_calls(&self, ended: &Result<(Value, u32), Fault>) {
         if let Ok((state, _)) = ended {
             self.steps_of_state
-                .set(value_size(state) / VALUES_IN_A_STEP);
+                .set(value_size_for_step_limit(state) / VALUES_IN_A_STEP);
         }
-        self.take_steps_and_note_longest_call(ended);
+        self.charge_call_and_note_longest(ended);
         let further = self.further_calls.get();
-        self.take_steps(further.saturating_mul(self.most_of_a_call.get()));
+        self.charge_steps_saturating(further.saturating_mul(self.most_of_a_call.get()));
     }
 
     /// The result of a search on these callbacks, or `None` if the search ended because no steps were left.
@@ -150,7 +150,7 @@ impl<'a, C: Callbacks> StepLimitedCallbacks<'a, C> {
         match found {
             Ok(found) => Ok(Some(found)),
             Err(AllocError) => {
-                if self.has_run_out_of_steps() {
+                if self.has_failed_for_lack_of_steps() {
                     Ok(None)
                 } else {
                     Err(AllocError)
@@ -164,23 +164,23 @@ impl<'a, C: Callbacks> Callbacks for StepLimitedCallbacks<'a, C> {
     ghost model = { λ b. C.model b.callbacks.now };
 
     fn init(&self, alloc: Global) -> Answer {
-        self.fail_if_out_of_steps()?;
+        self.note_and_fail_if_out_of_steps()?;
         let answer = self.callbacks.init(alloc)?;
-        self.take_steps_and_measure_state(&answer);
+        self.measure_state_and_charge_calls(&answer);
         Ok(answer)
     }
 
     fn command(&self, alloc: Global, state: &Value) -> Answer {
-        self.fail_if_out_of_steps()?;
+        self.note_and_fail_if_out_of_steps()?;
         let answer = self.callbacks.command(alloc, state)?;
-        self.take_steps_and_note_longest_call(&answer);
+        self.charge_call_and_note_longest(&answer);
         Ok(answer)
     }
 
     fn pre(&self, alloc: Global, op: u32, state: &Value, arguments: &[Value]) -> Answer {
-        self.fail_if_out_of_steps()?;
+        self.note_and_fail_if_out_of_steps()?;
         let answer = self.callbacks.pre(alloc, op, state, arguments)?;
-        self.take_steps_and_note_longest_call(&answer);
+        self.charge_call_and_note_longest(&answer);
         Ok(answer)
     }
 
@@ -192,9 +192,9 @@ impl<'a, C: Callbacks> Callbacks for StepLimitedCallbacks<'a, C> {
         arguments: &[Value],
         r: &Value,
     ) -> Answer {
-        self.fail_if_out_of_steps()?;
+        self.note_and_fail_if_out_of_steps()?;
         let answer = self.callbacks.next(alloc, op, state, arguments, r)?;
-        self.take_steps_and_measure_state(&answer);
+        self.measure_state_and_charge_calls(&answer);
         Ok(answer)
     }
 
@@ -206,9 +206,9 @@ impl<'a, C: Callbacks> Callbacks for StepLimitedCallbacks<'a, C> {
         arguments: &[Value],
         r: &Value,
     ) -> Answer {
-        self.fail_if_out_of_steps()?;
+        self.note_and_fail_if_out_of_steps()?;
         let answer = self.callbacks.post(alloc, op, state, arguments, r)?;
-        self.take_steps_and_note_longest_call(&answer);
+        self.charge_call_and_note_longest(&answer);
         Ok(answer)
     }
 }

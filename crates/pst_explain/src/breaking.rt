@@ -38,7 +38,7 @@ pub fn call_with_broken_reply<'a>(scene: &Scene<'a>, number: u32) -> CallWithBro
 }
 
 /// Returns what the reply says about a command.
-fn broken_reply_meaning(reply: &Reply) -> &'static str {
+fn verb_phrase_on_reply(reply: &Reply) -> &'static str {
     match reply {
         Reply::Value(_) => "has a value",
         Reply::Misfit => "has the reply misfit: it answered something other than",
@@ -49,7 +49,7 @@ fn broken_reply_meaning(reply: &Reply) -> &'static str {
 }
 
 /// Returns a sentence on the reply of a command and the expected type, if it is known.
-fn reply_sentence(
+fn sentence_on_reply_and_wanted_type(
     alloc: Global,
     model: &Source,
     call: &Call<'_>,
@@ -58,7 +58,7 @@ fn reply_sentence(
 ) -> Result<Vec<u8>, AllocError> {
     let mut text = call.text(alloc, model)?;
     add_str(&mut text, " ")?;
-    add_str(&mut text, broken_reply_meaning(reply))?;
+    add_str(&mut text, verb_phrase_on_reply(reply))?;
     if let Some(wanted) = wanted {
         add_str(&mut text, " a value of type ")?;
         add_tree_spelling(&mut text, &ty_form(alloc, wanted)?)?;
@@ -78,7 +78,7 @@ pub fn broken_reply_sentence(
     let Some(reply) = call.reply else {
         return Ok(None);
     };
-    let text = reply_sentence(alloc, model, call, reply, broken.wanted)?;
+    let text = sentence_on_reply_and_wanted_type(alloc, model, call, reply, broken.wanted)?;
     Ok(Some(text))
 }
 

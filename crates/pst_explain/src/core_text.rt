@@ -6,8 +6,8 @@ use crate::parts::add_marked_run_text;
 use pst_model::Source;
 use pst_reasons::AllowedValues;
 use pst_scene::{
-    Call, Cell, Page, Scene, Style, Table, add_interleaving_letters, add_reply_spelling, add_str,
-    add_value_spelling, copy_explanation_text, expression_text, false_postcondition_text,
+    Call, Cell, Page, Scene, Style, Table, add_interleaving_letters_or_dash, add_reply_spelling,
+    add_str, add_value_spelling, copy_explanation_text, expression_text, false_postcondition_text,
     join_explanation_parts, operation_of_call, value_text,
 };
 use pst_value::Value;
@@ -74,7 +74,7 @@ fn add_allowed_value_cell(
 }
 
 /// Adds a cell for each allowed value, and one of `..` if there may be others.
-fn add_cell_for_each_allowed_value(
+fn add_allowed_value_cells_dots_if_more(
     row: &mut Vec<Cell>,
     alloc: Global,
     model: &Source,
@@ -102,7 +102,7 @@ fn add_allowed_values_cell_or_cells(
     }
     let text = allowed_values_text(alloc, model, found)?;
     if text.len() > line {
-        return add_cell_for_each_allowed_value(row, alloc, model, found);
+        return add_allowed_value_cells_dots_if_more(row, alloc, model, found);
     }
     row.push(Cell::styled(Style::Right, text))?;
     Ok(())
@@ -115,9 +115,9 @@ fn why_answer_is_wrong_text(
     wrong: &WrongAnswer<'_>,
 ) -> Result<Vec<u8>, AllocError> {
     let mut text = false_postcondition_text(alloc, model, &wrong.falsity)?;
-    if !wrong.word.is_empty() {
+    if !wrong.interleaving.is_empty() {
         add_str(&mut text, ", in the order ")?;
-        add_interleaving_letters(&mut text, wrong.word.as_slice())?;
+        add_interleaving_letters_or_dash(&mut text, wrong.interleaving.as_slice())?;
     }
     Ok(text)
 }
@@ -174,7 +174,7 @@ fn add_core_answers_text(
     for answer in &core.answers {
         table.add_row(core_answer_row(alloc, scene, answer, line)?)?;
     }
-    table.write_or_stack(page, alloc, 4)
+    table.write_in_columns_or_stacked(page, alloc, 4)
 }
 
 /// Adds the sentences between the answers of a core and the run.
@@ -184,15 +184,15 @@ fn add_sentences_before_marked_run(
     core: &Core<'_>,
 ) -> Result<(), AllocError> {
     if core.is_cut {
-        page.add_sentence(alloc, 2, CUT.as_bytes())?;
+        page.add_wrapped_sentence(alloc, 2, CUT.as_bytes())?;
     }
     if core.answers.is_empty() {
-        return page.add_sentence(alloc, 2, b"The run:");
+        return page.add_wrapped_sentence(alloc, 2, b"The run:");
     }
-    if core.is_in_prefix() {
-        page.add_sentence(alloc, 2, b"The prefix alone shows it: no race is needed.")?;
+    if core.has_answers_only_in_prefix() {
+        page.add_wrapped_sentence(alloc, 2, b"The prefix alone shows it: no race is needed.")?;
     }
-    page.add_sentence(alloc, 2, b"The run, with * before what is reported above:")
+    page.add_wrapped_sentence(alloc, 2, b"The run, with * before what is reported above:")
 }
 
 /// Adds a core, and the run with the commands of the core marked.
@@ -202,7 +202,7 @@ fn add_core_and_marked_run_text(
     scene: &Scene<'_>,
     core: &Core<'_>,
 ) -> Result<(), AllocError> {
-    page.add_sentence(
+    page.add_wrapped_sentence(
         alloc,
         2,
         core_introduction_sentence(core.answers.len()).as_bytes(),
@@ -214,7 +214,7 @@ fn add_core_and_marked_run_text(
 }
 
 /// Adds a core, and the run with the commands of the core marked. `None` if the search of the core takes too many steps.
-pub fn add_core_explanation_text(
+pub fn add_optional_core_and_run_text(
     page: &mut Page,
     alloc: Global,
     scene: &Scene<'_>,
@@ -223,8 +223,8 @@ pub fn add_core_explanation_text(
     match core {
         Some(core) => add_core_and_marked_run_text(page, alloc, scene, core),
         None => {
-            page.add_sentence(alloc, 2, NO_CORE.as_bytes())?;
-            page.add_sentence(alloc, 2, b"The run:")?;
+            page.add_wrapped_sentence(alloc, 2, NO_CORE.as_bytes())?;
+            page.add_wrapped_sentence(alloc, 2, b"The run:")?;
             add_marked_run_text(page, alloc, scene, &[])
         }
     }

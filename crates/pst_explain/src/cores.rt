@@ -6,7 +6,7 @@ ghost use Rattle.pst_judge.specs.Verdict.{first_broken};
 ghost use Rattle.pst_reasons.specs.Reasons.{IsUnexplained};
 
 use crate::allowing::{
-    WrongAnswer, allowed_answers_for_explanation, wrong_answer_if_rest_is_right,
+    WrongAnswer, allowed_answers_for_explanation, why_answer_contradicts_rest_of_core,
 };
 use crate::bounded::StepLimitedCallbacks;
 use pst_case::History;
@@ -65,7 +65,7 @@ impl<'a> Core<'a> {
     }
 
     /// Whether there are answers and all are in the prefix, so that no race is needed.
-    pub fn is_in_prefix(&self) -> bool {
+    pub fn has_answers_only_in_prefix(&self) -> bool {
         for answer in &self.answers {
             if answer.call.part != CasePart::Prefix {
                 return false;
@@ -89,7 +89,7 @@ fn has_postcondition_with_single_reply(
 
 /// Adds to an answer of a core what the model allows in its place, and why it is wrong if the explanation has to say so.
 /// `AllocError` too if `callbacks` have no steps left.
-fn complete_core_answer<'a, C: Callbacks>(
+fn set_allowed_values_and_needed_reason<'a, C: Callbacks>(
     callbacks: &StepLimitedCallbacks<'_, C>,
     alloc: Global,
     scene: &Scene<'a>,
@@ -107,7 +107,9 @@ fn complete_core_answer<'a, C: Callbacks>(
     let allowed = allowed_answers_for_explanation(callbacks, alloc, scene, history, core, &call)?;
     answer.allowed = allowed;
     if answer.needs_reason_why_wrong() {
-        let wrong = wrong_answer_if_rest_is_right(callbacks, alloc, scene, history, core, &call)?;
+        let wrong = why_answer_contradicts_rest_of_core(
+            callbacks, alloc, scene, history, core, &call,
+        )?;
         answer.wrong = wrong;
     }
     Ok(())
@@ -131,7 +133,7 @@ fn core_answer_without_allowed_values<'a>(
 }
 
 /// Returns the answer of a command of a core. If `callbacks` have no steps left, what the model allows is unknown.
-fn core_answer_of_call<'a, C: Callbacks>(
+fn core_answer_within_step_limit<'a, C: Callbacks>(
     callbacks: &StepLimitedCallbacks<'_, C>,
     alloc: Global,
     scene: &Scene<'a>,
@@ -146,8 +148,15 @@ fn core_answer_of_call<'a, C: Callbacks>(
     requires answered { first_broken 1 (recorded history.now) ≡ None }
 {
     let mut answer = core_answer_without_allowed_values(alloc, scene, call)?;
-    if !callbacks.has_run_out_of_steps() {
-        let searched = complete_core_answer(callbacks, alloc, scene, history, core, &mut answer);
+    if !callbacks.has_failed_for_lack_of_steps() {
+        let searched = set_allowed_values_and_needed_reason(
+            callbacks,
+            alloc,
+            scene,
+            history,
+            core,
+            &mut answer,
+        );
         let _found = callbacks.none_if_out_of_steps(searched)?;
     }
     Ok(answer)
@@ -180,11 +189,13 @@ pub fn find_core_for_explanation<'a, C: Callbacks>(
     let mut answers = Vec::new(alloc);
     for number in numbers {
         if let Some(call) = call_numbered(scene.all.as_slice(), *number) {
-            answers.push(core_answer_of_call(callbacks, alloc, scene, history, numbers, call)?)?;
+            answers.push(core_answer_within_step_limit(
+                callbacks, alloc, scene, history, numbers, call,
+            )?)?;
         }
     }
     Ok(Core {
         answers,
-        is_cut: callbacks.has_run_out_of_steps(),
+        is_cut: callbacks.has_failed_for_lack_of_steps(),
     })
 }

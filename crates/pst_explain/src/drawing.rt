@@ -4,7 +4,7 @@ use crate::labels::{
     add_graphviz_label_cut_if_long, add_graphviz_node_name, add_graphviz_quoted_text,
 };
 use crate::position::GraphPosition;
-use crate::search::{GraphMove, MoveTarget, SearchGraph};
+use crate::search::{GraphMove, GraphMoveTarget, SearchGraph};
 use pst_scene::{Scene, add_str, copy_explanation_text, dead_end_text, value_text};
 use std::alloc::{AllocError, Global};
 
@@ -33,7 +33,7 @@ fn is_search_cut_short(scene: &Scene<'_>, search: &SearchGraph<'_>) -> bool {
 }
 
 /// Adds the title, and a note if the search stopped before its end.
-fn add_graph_title(
+fn add_graph_title_with_note_if_cut(
     out: &mut Vec<u8>,
     alloc: Global,
     scene: &Scene<'_>,
@@ -109,7 +109,7 @@ fn add_graphviz_edge(
     to: usize,
     style: &str,
 ) -> Result<(), AllocError> {
-    let text = step.call.text_with_reply(alloc, scene.model)?;
+    let text = step.call.text_with_reply_or_variable(alloc, scene.model)?;
     add_str(out, "  ")?;
     add_graphviz_node_name(out, "p", step.from)?;
     add_str(out, " -> ")?;
@@ -140,7 +140,7 @@ fn add_graphviz_dead_end(
 const RED: &str = ", color=red, fontcolor=red";
 
 /// The style of the edge for move `number`, which leads to a position.
-fn edge_style_of_move(search: &SearchGraph<'_>, number: usize) -> &'static str {
+fn bold_edge_style_if_shown(search: &SearchGraph<'_>, number: usize) -> &'static str {
     if search.shown.iter().any(|shown| *shown == number) {
         ", style=bold"
     } else {
@@ -149,7 +149,7 @@ fn edge_style_of_move(search: &SearchGraph<'_>, number: usize) -> &'static str {
 }
 
 /// Adds a move, and the dead end that it leads to.
-fn add_graphviz_move(
+fn add_graphviz_move_and_any_dead_end(
     out: &mut Vec<u8>,
     alloc: Global,
     scene: &Scene<'_>,
@@ -158,7 +158,7 @@ fn add_graphviz_move(
     step: &GraphMove<'_>,
 ) -> Result<(), AllocError> {
     match &step.target {
-        MoveTarget::Position(to) => {
+        GraphMoveTarget::Position(to) => {
             add_graphviz_edge(
                 out,
                 alloc,
@@ -166,10 +166,10 @@ fn add_graphviz_move(
                 step,
                 "p",
                 *to,
-                edge_style_of_move(search, number),
+                bold_edge_style_if_shown(search, number),
             )
         }
-        MoveTarget::DeadEnd(dead_end) => {
+        GraphMoveTarget::DeadEnd(dead_end) => {
             let why = dead_end_text(alloc, scene.model, dead_end)?;
             add_graphviz_dead_end(out, alloc, number, why.as_slice(), RED)?;
             add_graphviz_edge(out, alloc, scene, step, "d", number, RED)
@@ -178,7 +178,7 @@ fn add_graphviz_move(
 }
 
 /// Adds the positions, and puts those after equally many commands side by side.
-fn add_graphviz_positions(
+fn add_graphviz_positions_in_ranks(
     out: &mut Vec<u8>,
     alloc: Global,
     scene: &Scene<'_>,
@@ -194,14 +194,14 @@ fn add_graphviz_positions(
 }
 
 /// Adds the moves, and the dead ends.
-fn add_graphviz_moves(
+fn add_graphviz_moves_and_dead_ends(
     out: &mut Vec<u8>,
     alloc: Global,
     scene: &Scene<'_>,
     search: &SearchGraph<'_>,
 ) -> Result<(), AllocError> {
     for (number, step) in search.moves.iter().enumerate() {
-        add_graphviz_move(out, alloc, scene, search, number, step)?;
+        add_graphviz_move_and_any_dead_end(out, alloc, scene, search, number, step)?;
     }
     Ok(())
 }
@@ -215,12 +215,12 @@ pub fn search_graph_as_graphviz_text(
 ) -> Result<Vec<u8>, AllocError> {
     let mut out = copy_explanation_text(alloc, "digraph search {\n")?;
     add_str(&mut out, STYLE)?;
-    add_graph_title(&mut out, alloc, scene, search, title)?;
+    add_graph_title_with_note_if_cut(&mut out, alloc, scene, search, title)?;
     if search.positions.is_empty() {
         add_graphviz_dead_end(&mut out, alloc, 0, b"the initial state faults", RED)?;
     }
-    add_graphviz_positions(&mut out, alloc, scene, search)?;
-    add_graphviz_moves(&mut out, alloc, scene, search)?;
+    add_graphviz_positions_in_ranks(&mut out, alloc, scene, search)?;
+    add_graphviz_moves_and_dead_ends(&mut out, alloc, scene, search)?;
     add_str(&mut out, "}\n")?;
     Ok(out)
 }

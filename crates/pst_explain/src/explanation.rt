@@ -16,7 +16,7 @@ use crate::failures::{
 };
 use crate::places::TreePlace;
 use crate::walks::{
-    InterleavingStates, states_of_explaining_interleaving, states_of_furthest_interleaving,
+    InterleavingStates, furthest_interleaving_with_blocked_calls, states_of_explaining_interleaving,
 };
 use pst_case::{History, Run};
 use pst_eval::{Callback, Callbacks, FaultPlace};
@@ -129,7 +129,7 @@ fn core_within_step_limit<'a, C: Callbacks>(
     requires unexplained { IsUnexplained (C.model callbacks.now.callbacks.now) scene.now.run.now.shaped.case
         history.now }
 {
-    if callbacks.has_run_out_of_steps() {
+    if callbacks.has_failed_for_lack_of_steps() {
         return Ok(None);
     }
     callbacks.none_if_out_of_steps(find_core_for_explanation(callbacks, alloc, scene, history))
@@ -151,13 +151,18 @@ fn failure_in_first_faulting_interleaving<'a, C: Callbacks>(
     requires verdict { IsVerdict (C.model callbacks.now.callbacks.now) scene.now.run.now.shaped.case history.now
         (verdict.Faulted place) }
 {
-    let (_, mut word) = verdict_with_interleaving(callbacks, alloc, &scene.run.shaped, history)?;
+    let (_, mut interleaving) = verdict_with_interleaving(
+        callbacks,
+        alloc,
+        &scene.run.shaped,
+        history,
+    )?;
     if let Some(call) = call_numbered(scene.all.as_slice(), place.command) {
         if let CasePart::Branch(branch) = call.part {
-            word.push(branch)?;
+            interleaving.push(branch)?;
         }
     }
-    failure_at_fault_place(alloc, scene, word.as_slice(), place)
+    failure_at_fault_place(alloc, scene, interleaving.as_slice(), place)
 }
 
 /// Returns the first fault of an item that no interleaving explains, and a core.
@@ -199,7 +204,7 @@ fn explain_unexplained_verdict<'a, C: Callbacks>(
     requires verdict { IsVerdict (C.model callbacks.now.callbacks.now) scene.now.run.now.shaped.case history.now
         (verdict.Unexplained far) }
 {
-    let furthest = callbacks.none_if_out_of_steps(states_of_furthest_interleaving(
+    let furthest = callbacks.none_if_out_of_steps(furthest_interleaving_with_blocked_calls(
         callbacks, alloc, scene, history, far,
     ))?;
     let core = core_within_step_limit(callbacks, alloc, scene, history)?;
@@ -226,13 +231,13 @@ fn explain_verdict<'a, C: Callbacks>(
 {
     let bounded = StepLimitedCallbacks::new(callbacks, MOST_STEPS);
     match verdict {
-        Verdict::Explained(word) => {
+        Verdict::Explained(interleaving) => {
             let walk = states_of_explaining_interleaving(
                 callbacks,
                 alloc,
                 scene,
                 history,
-                word.as_slice(),
+                interleaving.as_slice(),
             )?;
             Ok(JudgementReason::Explained(walk))
         }
@@ -257,11 +262,11 @@ fn explain_invalid_case<'a>(
             let Some(call) = call_numbered(scene.all.as_slice(), *command) else {
                 return Ok(JudgementReason::Nothing);
             };
-            let word = merge.as_slice();
+            let interleaving = merge.as_slice();
             let failure = failure_of_call_in_interleaving(
                 alloc,
                 scene,
-                word,
+                interleaving,
                 Callback::Pre,
                 call,
                 None,

@@ -1,13 +1,13 @@
 //! The text of callbacks that fault, and of preconditions that are false.
 
 use crate::failures::{
-    ExpressionWithFailingPart, ExpressionWithNameValues, Failure, FaultyPartWithValues,
+    ExpressionWithFaultyPart, ExpressionWithNameValues, Failure, FaultyPartWithValues,
 };
 use crate::walk_text::add_interleaving_states_text;
 use pst_eval::Callback;
 use pst_model::Source;
 use pst_scene::{
-    Binding, Call, CasePart, Page, Scene, Table, add_interleaving_letters, add_str,
+    Binding, Call, CasePart, Page, Scene, Table, add_interleaving_letters_or_dash, add_str,
     copy_explanation_text, expression_text, join_explanation_parts, row_of_two_plain_cells,
     value_text,
 };
@@ -37,23 +37,23 @@ fn add_expression_and_values_of_names(
     evaluated: &ExpressionWithNameValues<'_>,
 ) -> Result<(), AllocError> {
     let text = expression_text(alloc, evaluated.expr)?;
-    page.add_line(alloc, 4, text.as_slice())?;
+    page.add_line_cut_to_width(alloc, 4, text.as_slice())?;
     let mut table = Table::new(alloc)?;
     for binding in &evaluated.names {
         add_name_and_value_row(&mut table, alloc, model, binding)?;
     }
-    table.write(page, alloc, 6)
+    table.write_in_columns_cut_to_fit(page, alloc, 6)
 }
 
 /// Adds the part of an expression that faults.
-fn add_failing_part_text(
+fn add_faulty_part_text(
     page: &mut Page,
     alloc: Global,
     model: &Source,
     part: &FaultyPartWithValues<'_>,
 ) -> Result<(), AllocError> {
     match part.function {
-        None => page.add_sentence(alloc, 2, b"It faults in this part:")?,
+        None => page.add_wrapped_sentence(alloc, 2, b"It faults in this part:")?,
         Some(name) => {
             let parts: [&[u8]; 3] = [
                 b"It faults in this part of the function ",
@@ -61,22 +61,22 @@ fn add_failing_part_text(
                 b":",
             ];
             let sentence = join_explanation_parts(alloc, &parts)?;
-            page.add_sentence(alloc, 2, sentence.as_slice())?;
+            page.add_wrapped_sentence(alloc, 2, sentence.as_slice())?;
         }
     }
     add_expression_and_values_of_names(page, alloc, model, &part.evaluated)
 }
 
 /// Adds an expression, and the part of it that faults.
-fn add_expression_and_failing_part(
+fn add_expression_and_faulty_part(
     page: &mut Page,
     alloc: Global,
     model: &Source,
-    expression: &ExpressionWithFailingPart<'_>,
+    expression: &ExpressionWithFaultyPart<'_>,
 ) -> Result<(), AllocError> {
     add_expression_and_values_of_names(page, alloc, model, &expression.whole)?;
     match &expression.part {
-        Some(part) => add_failing_part_text(page, alloc, model, part),
+        Some(part) => add_faulty_part_text(page, alloc, model, part),
         None => Ok(()),
     }
 }
@@ -89,19 +89,19 @@ fn add_call_with_reply_if_any(
     call: &Call<'_>,
 ) -> Result<(), AllocError> {
     let text = match call.reply {
-        Some(_) => call.text_with_reply(alloc, model)?,
+        Some(_) => call.text_with_reply_or_variable(alloc, model)?,
         None => call.text(alloc, model)?,
     };
     out.extend_from_slice(text.as_slice())
 }
 
-/// Returns whether `word` has a letter for each command of the branches.
-fn is_complete_interleaving(scene: &Scene<'_>, word: &[usize]) -> bool {
+/// Returns whether `interleaving` has a letter for each command of the branches.
+fn is_interleaving_of_full_length(scene: &Scene<'_>, interleaving: &[usize]) -> bool {
     let mut count = 0usize;
     for branch in &scene.calls.branches {
         count = count.saturating_add(branch.len());
     }
-    word.len() == count
+    interleaving.len() == count
 }
 
 /// Adds the interleaving in which a callback of a command of a branch faults.
@@ -113,16 +113,16 @@ fn add_fault_interleaving_text(
     let Some(walk) = &failure.walk else {
         return add_str(text, " in some interleaving");
     };
-    let word = walk.word.as_slice();
+    let interleaving = walk.interleaving.as_slice();
     add_str(
         text,
-        if is_complete_interleaving(scene, word) {
+        if is_interleaving_of_full_length(scene, interleaving) {
             " in the interleaving "
         } else {
             " in an interleaving that begins with "
         },
     )?;
-    add_interleaving_letters(text, word)
+    add_interleaving_letters_or_dash(text, interleaving)
 }
 
 /// Returns a sentence that says which callback of a command faults, and in which interleaving.
@@ -172,7 +172,7 @@ fn false_precondition_sentence(
 ) -> Result<Vec<u8>, AllocError> {
     let mut text = copy_explanation_text(alloc, "In the interleaving ")?;
     if let Some(walk) = &failure.walk {
-        add_interleaving_letters(&mut text, walk.word.as_slice())?;
+        add_interleaving_letters_or_dash(&mut text, walk.interleaving.as_slice())?;
     }
     add_str(&mut text, " the precondition of ")?;
     if let Some(call) = &failure.call {
@@ -204,16 +204,16 @@ pub fn add_failure_explanation_text(
     failure: &Failure<'_>,
 ) -> Result<(), AllocError> {
     let sentence = failure_sentence(alloc, scene, failure)?;
-    page.add_sentence(alloc, 2, sentence.as_slice())?;
+    page.add_wrapped_sentence(alloc, 2, sentence.as_slice())?;
     if let Some(expression) = &failure.expression {
-        add_expression_and_failing_part(page, alloc, scene.model, expression)?;
+        add_expression_and_faulty_part(page, alloc, scene.model, expression)?;
     }
     if failure.callback == Callback::Init {
         return Ok(());
     }
     let Some(walk) = &failure.walk else {
-        return page.add_sentence(alloc, 2, NO_WALK.as_bytes());
+        return page.add_wrapped_sentence(alloc, 2, NO_WALK.as_bytes());
     };
-    page.add_sentence(alloc, 2, b"The states before it:")?;
+    page.add_wrapped_sentence(alloc, 2, b"The states before it:")?;
     add_interleaving_states_text(page, alloc, scene.model, walk)
 }

@@ -6,11 +6,11 @@ use crate::walks::{
 };
 use pst_case::Reply;
 use pst_eval::{Callback, Env, FaultPlace};
-use pst_model::{Expr, calls_of, initial_state_of};
+use pst_model::{Expr, find_command_expression, find_initial_state_expression};
 use pst_scene::{
-    Binding, Call, FaultyPart, Scene, bindings_of_environment, call_numbered,
-    calls_before_call_in_interleaving, faulty_part_of_expression, operation_of_call,
-    recorded_arguments, reference_to_result, states_along_calls, words_of_expression,
+    Binding, Call, FaultyPart, Scene, arguments_with_recorded_results, bindings_of_environment,
+    call_numbered, calls_before_call_in_interleaving, faulty_part_of_expression, operation_of_call,
+    result_reference_or_variable, states_along_calls, words_of_expression,
 };
 use pst_value::{Fault, Items, Value};
 use std::alloc::{AllocError, Global};
@@ -33,7 +33,7 @@ pub struct FaultyPartWithValues<'a> {
 
 /// An expression of a callback, and the part of it that faults, if it is not the whole.
 #[derive(Drop)]
-pub struct ExpressionWithFailingPart<'a> {
+pub struct ExpressionWithFaultyPart<'a> {
     pub whole: ExpressionWithNameValues<'a>,
     pub part: Option<FaultyPartWithValues<'a>>,
 }
@@ -47,13 +47,13 @@ pub struct Failure<'a> {
     /// Its fault; `None` if it is a precondition that is false.
     pub fault: Option<Fault>,
     /// Its expression. `None` if the model has none, or there is no state before the command.
-    pub expression: Option<ExpressionWithFailingPart<'a>>,
+    pub expression: Option<ExpressionWithFaultyPart<'a>>,
     /// The interleaving up to there; `None` if its search takes too many steps.
     pub walk: Option<InterleavingStates<'a>>,
 }
 
 /// Returns the value of `name`, the inner one if it has several.
-fn bound_value<'a>(bindings: &'a [Binding], name: &[u8]) -> Option<&'a Value> {
+fn innermost_bound_value<'a>(bindings: &'a [Binding], name: &[u8]) -> Option<&'a Value> {
     for binding in bindings {
         if binding.name.as_slice() == name {
             return Some(&binding.value);
@@ -69,11 +69,11 @@ fn expression_with_bound_values<'a>(
     bindings: &[Binding],
 ) -> Result<ExpressionWithNameValues<'a>, AllocError> {
     let mut names = Vec::new(alloc);
-    let words = words_of_expression(alloc, expr)?;
-    for word in &words {
-        if let Some(value) = bound_value(bindings, word.as_slice()) {
+    let used = words_of_expression(alloc, expr)?;
+    for name in &used {
+        if let Some(value) = innermost_bound_value(bindings, name.as_slice()) {
             names.push(Binding {
-                name: Items::from_slice(alloc, word.as_slice())?,
+                name: Items::from_slice(alloc, name.as_slice())?,
                 value: value.copy(alloc)?,
             })?;
         }
@@ -82,7 +82,7 @@ fn expression_with_bound_values<'a>(
 }
 
 /// Returns the part of an expression that faults, if it is not the whole.
-fn failing_part_unless_whole<'a>(
+fn faulty_part_unless_whole_expression<'a>(
     alloc: Global,
     whole: &Expr,
     found: &FaultyPart<'a>,
@@ -97,43 +97,43 @@ fn failing_part_unless_whole<'a>(
 }
 
 /// Returns an expression of the model with its values in `env`, and the part of it that faults.
-fn expression_with_failing_part<'a>(
+fn expression_with_faulty_part<'a>(
     alloc: Global,
     scene: &Scene<'a>,
     expr: &'a Expr,
     env: &Env<'_>,
-) -> Result<Option<ExpressionWithFailingPart<'a>>, AllocError> {
+) -> Result<Option<ExpressionWithFaultyPart<'a>>, AllocError> {
     let names = bindings_of_environment(alloc, env)?;
     let whole = expression_with_bound_values(alloc, expr, names.as_slice())?;
     let part = match faulty_part_of_expression(alloc, scene.model, expr, env)? {
-        Some(found) => failing_part_unless_whole(alloc, expr, &found)?,
+        Some(found) => faulty_part_unless_whole_expression(alloc, expr, &found)?,
         None => None,
     };
-    Ok(Some(ExpressionWithFailingPart { whole, part }))
+    Ok(Some(ExpressionWithFaultyPart { whole, part }))
 }
 
 /// Returns the expression of the initial state, and the part of it that faults. `None` if the model has none.
-fn init_expression_with_failing_part<'a>(
+fn init_expression_with_faulty_part<'a>(
     alloc: Global,
     scene: &Scene<'a>,
-) -> Result<Option<ExpressionWithFailingPart<'a>>, AllocError> {
-    match initial_state_of(scene.model.items.as_slice()) {
-        Some(expr) => expression_with_failing_part(alloc, scene, expr, &Env::Frame(&[], &[])),
+) -> Result<Option<ExpressionWithFaultyPart<'a>>, AllocError> {
+    match find_initial_state_expression(scene.model.items.as_slice()) {
+        Some(expr) => expression_with_faulty_part(alloc, scene, expr, &Env::Frame(&[], &[])),
         None => Ok(None),
     }
 }
 
 /// Returns the expression of the calls to pick from in `state`, and the part of it that faults. `None` if the model has
 /// none.
-fn command_expression_with_failing_part<'a>(
+fn command_expression_with_faulty_part<'a>(
     alloc: Global,
     scene: &Scene<'a>,
     state: &Value,
-) -> Result<Option<ExpressionWithFailingPart<'a>>, AllocError> {
-    match calls_of(scene.model.items.as_slice()) {
+) -> Result<Option<ExpressionWithFaultyPart<'a>>, AllocError> {
+    match find_command_expression(scene.model.items.as_slice()) {
         Some(expr) => {
             let frame = Env::Frame(&[], &[]);
-            expression_with_failing_part(alloc, scene, expr, &Env::With(b"s", &*state, &frame))
+            expression_with_faulty_part(alloc, scene, expr, &Env::With(b"s", &*state, &frame))
         }
         None => Ok(None),
     }
@@ -141,31 +141,31 @@ fn command_expression_with_failing_part<'a>(
 
 /// Returns the expression of the `next` of a command, and the part of it that faults. `env` has no
 /// result yet.
-fn next_expression_with_failing_part<'a>(
+fn next_expression_with_faulty_part<'a>(
     alloc: Global,
     scene: &Scene<'a>,
     call: &Call<'_>,
     expr: &'a Expr,
     env: &Env<'_>,
-) -> Result<Option<ExpressionWithFailingPart<'a>>, AllocError> {
-    let result = reference_to_result(alloc, call)?;
+) -> Result<Option<ExpressionWithFaultyPart<'a>>, AllocError> {
+    let result = result_reference_or_variable(alloc, call)?;
     let inner = Env::With(b"r", &result, &*env);
-    expression_with_failing_part(alloc, scene, expr, &inner)
+    expression_with_faulty_part(alloc, scene, expr, &inner)
 }
 
 /// Returns the expression of the `post` of a command, and the part of it that faults. `env` has no
 /// result yet. `None` if the reply is no value.
-fn post_expression_with_failing_part<'a>(
+fn post_expression_with_faulty_part<'a>(
     alloc: Global,
     scene: &Scene<'a>,
     call: &Call<'_>,
     expr: &'a Expr,
     env: &Env<'_>,
-) -> Result<Option<ExpressionWithFailingPart<'a>>, AllocError> {
+) -> Result<Option<ExpressionWithFaultyPart<'a>>, AllocError> {
     match call.reply {
         Some(Reply::Value(value)) => {
             let inner = Env::With(b"r", &*value, &*env);
-            expression_with_failing_part(alloc, scene, expr, &inner)
+            expression_with_faulty_part(alloc, scene, expr, &inner)
         }
         _ => Ok(None),
     }
@@ -173,30 +173,30 @@ fn post_expression_with_failing_part<'a>(
 
 /// Returns the expression of a callback of a command on `state`, the state before it, and the part of it that faults.
 /// `None` for `init` and `command`, for `post` if the reply is no value, and if the model has no such operation.
-fn callback_expression_with_failing_part<'a>(
+fn operation_expression_with_faulty_part<'a>(
     alloc: Global,
     scene: &Scene<'a>,
     callback: Callback,
     call: &Call<'_>,
     state: &Value,
-) -> Result<Option<ExpressionWithFailingPart<'a>>, AllocError> {
+) -> Result<Option<ExpressionWithFaultyPart<'a>>, AllocError> {
     let Some(operation) = operation_of_call(scene, call) else {
         return Ok(None);
     };
-    let args = recorded_arguments(alloc, scene, call)?;
+    let args = arguments_with_recorded_results(alloc, scene, call)?;
     let frame = Env::Frame(operation.params.as_slice(), args.as_slice());
     let env = Env::With(b"s", &*state, &frame);
     match callback {
         Callback::Init | Callback::Command => Ok(None),
-        Callback::Pre => expression_with_failing_part(alloc, scene, &operation.pre, &env),
-        Callback::Next => next_expression_with_failing_part(
+        Callback::Pre => expression_with_faulty_part(alloc, scene, &operation.pre, &env),
+        Callback::Next => next_expression_with_faulty_part(
             alloc,
             scene,
             call,
             &operation.next,
             &env,
         ),
-        Callback::Post => post_expression_with_failing_part(
+        Callback::Post => post_expression_with_faulty_part(
             alloc,
             scene,
             call,
@@ -206,41 +206,41 @@ fn callback_expression_with_failing_part<'a>(
     }
 }
 
-/// Returns the walk along the commands `before` of the interleaving `word`, as far as `states` has
+/// Returns the walk along the commands `before` of `interleaving`, as far as `states` has
 /// states, with the commands that cannot come next after them.
 fn interleaving_states_with_blocked_calls<'a>(
     alloc: Global,
     scene: &Scene<'a>,
-    word: &[usize],
+    interleaving: &[usize],
     before: &[Call<'a>],
     states: &[Value],
 ) -> Result<InterleavingStates<'a>, AllocError> {
-    let mut walk = interleaving_states_along_calls(alloc, scene, word, before, states)?;
+    let mut walk = interleaving_states_along_calls(alloc, scene, interleaving, before, states)?;
     if let Some(state) = states.get(before.len()) {
         walk.stopped = blocked_calls_after(alloc, scene, before, state)?;
     }
     Ok(walk)
 }
 
-/// Returns the failure of a callback of a command in the interleaving `word`. `fault` is its fault, or `None` if it is
+/// Returns the failure of a callback of a command in `interleaving`. `fault` is its fault, or `None` if it is
 /// a precondition that is false.
 pub fn failure_of_call_in_interleaving<'a>(
     alloc: Global,
     scene: &Scene<'a>,
-    word: &[usize],
+    interleaving: &[usize],
     callback: Callback,
     call: Call<'a>,
     fault: Option<Fault>,
 ) -> Result<Failure<'a>, AllocError> {
-    let before = calls_before_call_in_interleaving(alloc, scene, word, &call)?;
+    let before = calls_before_call_in_interleaving(alloc, scene, interleaving, &call)?;
     let before = before.as_slice();
     let states = states_along_calls(alloc, scene, before)?;
     let states = states.as_slice();
     let expression = match states.get(before.len()) {
-        Some(state) => callback_expression_with_failing_part(alloc, scene, callback, &call, state)?,
+        Some(state) => operation_expression_with_faulty_part(alloc, scene, callback, &call, state)?,
         None => None,
     };
-    let walk = interleaving_states_with_blocked_calls(alloc, scene, word, before, states)?;
+    let walk = interleaving_states_with_blocked_calls(alloc, scene, interleaving, before, states)?;
     Ok(Failure {
         callback,
         call: Some(call),
@@ -250,33 +250,40 @@ pub fn failure_of_call_in_interleaving<'a>(
     })
 }
 
-/// Returns the failure at `place` in the interleaving `word`.
+/// Returns the failure at `place` in `interleaving`.
 pub fn failure_at_fault_place<'a>(
     alloc: Global,
     scene: &Scene<'a>,
-    word: &[usize],
+    interleaving: &[usize],
     place: FaultPlace,
 ) -> Result<Failure<'a>, AllocError> {
     let fault = Some(place.fault);
     if let Some(call) = call_numbered(scene.all.as_slice(), place.command) {
-        return failure_of_call_in_interleaving(alloc, scene, word, place.callback, call, fault);
+        return failure_of_call_in_interleaving(
+            alloc,
+            scene,
+            interleaving,
+            place.callback,
+            call,
+            fault,
+        );
     }
     Ok(Failure {
         callback: Callback::Init,
         call: None,
         fault,
-        expression: init_expression_with_failing_part(alloc, scene)?,
-        walk: Some(interleaving_without_states(alloc, word)?),
+        expression: init_expression_with_faulty_part(alloc, scene)?,
+        walk: Some(interleaving_without_states(alloc, interleaving)?),
     })
 }
 
 /// Returns the expression of a callback of a command, without any value.
-fn callback_expression_without_values<'a>(
+fn operation_expression_without_values<'a>(
     alloc: Global,
     scene: &Scene<'a>,
     callback: Callback,
     call: &Call<'_>,
-) -> Option<ExpressionWithFailingPart<'a>> {
+) -> Option<ExpressionWithFaultyPart<'a>> {
     let operation = operation_of_call(scene, call)?;
     let expr = match callback {
         Callback::Init | Callback::Command => return None,
@@ -286,7 +293,7 @@ fn callback_expression_without_values<'a>(
     };
     let names = Vec::new(alloc);
     let whole = ExpressionWithNameValues { expr, names };
-    Some(ExpressionWithFailingPart { whole, part: None })
+    Some(ExpressionWithFaultyPart { whole, part: None })
 }
 
 /// Returns the failure at `place` in an interleaving that is not known.
@@ -302,7 +309,7 @@ pub fn failure_in_unknown_interleaving<'a>(
         callback: place.callback,
         call: Some(call),
         fault: Some(place.fault),
-        expression: callback_expression_without_values(alloc, scene, place.callback, &call),
+        expression: operation_expression_without_values(alloc, scene, place.callback, &call),
         walk: None,
     })
 }
@@ -317,7 +324,7 @@ pub fn command_callback_failure_after_script<'a>(
     let states = states_along_calls(alloc, scene, calls)?;
     let states = states.as_slice();
     let expression = match states.get(calls.len()) {
-        Some(state) => command_expression_with_failing_part(alloc, scene, state)?,
+        Some(state) => command_expression_with_faulty_part(alloc, scene, state)?,
         None => None,
     };
     Ok(Failure {

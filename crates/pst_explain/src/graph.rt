@@ -6,7 +6,7 @@ use crate::bounded::StepLimitedCallbacks;
 use crate::drawing::search_graph_as_graphviz_text;
 use crate::explanation::MOST_STEPS;
 use crate::path::calls_of_displayed_interleaving;
-use crate::search::{build_search_graph_of_interleaving, build_truncated_search_graph};
+use crate::search::{build_interleaving_graph_with_dead_ends, build_search_graph_up_to_limit};
 use pst_case::Run;
 use pst_eval::Callbacks;
 use pst_judge::{Judged, Verdict};
@@ -21,13 +21,13 @@ const PATH_ALONE: &str = "\nthe interleaving and its dead ends; --all draws the 
 const NO_PATH: &str =
     "\nthe interleaving of the verdict is left out: its search takes too many steps";
 
-/// The addition to the title. `is_path`: the graph shows only the interleaving of the verdict. `is_shown`: this
+/// The addition to the title. `shows_only_path`: the graph shows only the interleaving of the verdict. `is_path_known`: this
 /// interleaving is known.
-fn graph_title_addition(is_path: bool, is_shown: bool) -> &'static str {
-    if is_path {
+fn graph_title_note_or_empty(shows_only_path: bool, is_path_known: bool) -> &'static str {
+    if shows_only_path {
         return PATH_ALONE;
     }
-    if is_shown { "" } else { NO_PATH }
+    if is_path_known { "" } else { NO_PATH }
 }
 
 /// Whether an interleaving explains the run.
@@ -61,17 +61,17 @@ pub fn graphviz_text_of_item_search<C: Callbacks>(
     let shown = bounded.none_if_out_of_steps(calls_of_displayed_interleaving(
         &bounded, alloc, &scene, judged,
     ))?;
-    let is_shown = shown.is_some();
+    let is_path_known = shown.is_some();
     let shown = shown.unwrap_or(Vec::new(alloc));
-    let is_path = is_explained(judged) && !all;
-    let search = if is_path {
-        build_search_graph_of_interleaving(alloc, &scene, shown.as_slice())?
+    let shows_only_path = is_explained(judged) && !all;
+    let search = if shows_only_path {
+        build_interleaving_graph_with_dead_ends(alloc, &scene, shown.as_slice())?
     } else {
-        build_truncated_search_graph(alloc, &scene, shown.as_slice())?
+        build_search_graph_up_to_limit(alloc, &scene, shown.as_slice())?
     };
     let verdict = judged.text(alloc)?;
     let verdict = verdict.as_str();
-    let rest = graph_title_addition(is_path, is_shown);
+    let rest = graph_title_note_or_empty(shows_only_path, is_path_known);
     let title = format!(in alloc; "{number} {verdict}{rest}")?;
     search_graph_as_graphviz_text(alloc, &scene, &search, title.as_str())
 }

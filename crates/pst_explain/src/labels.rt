@@ -1,6 +1,6 @@
 //! Names and labels in the language of Graphviz.
 
-use pst_scene::{add_number, add_str, cut_in_middle};
+use pst_scene::{add_number, add_str, cut_in_middle_if_too_long};
 use std::alloc::{AllocError, Global};
 
 /// The most bytes of a label.
@@ -17,7 +17,7 @@ pub fn add_graphviz_node_name(
 }
 
 /// Adds a byte of a text in quotes, escaped so that Graphviz shows it.
-fn add_graphviz_quoted_byte(out: &mut Vec<u8>, byte: u8) -> Result<(), AllocError> {
+fn add_graphviz_escaped_byte(out: &mut Vec<u8>, byte: u8) -> Result<(), AllocError> {
     match byte {
         b'"' => add_str(out, "\\\""),
         b'\\' => add_str(out, "\\\\"),
@@ -33,7 +33,7 @@ fn add_graphviz_quoted_byte(out: &mut Vec<u8>, byte: u8) -> Result<(), AllocErro
 pub fn add_graphviz_quoted_text(out: &mut Vec<u8>, text: &[u8]) -> Result<(), AllocError> {
     add_str(out, "\"")?;
     for byte in text {
-        add_graphviz_quoted_byte(out, *byte)?;
+        add_graphviz_escaped_byte(out, *byte)?;
     }
     add_str(out, "\"")
 }
@@ -44,7 +44,7 @@ pub fn add_graphviz_label_cut_if_long(
     alloc: Global,
     text: &[u8],
 ) -> Result<(), AllocError> {
-    let text = cut_in_middle(alloc, text, MOST_BYTES)?;
+    let text = cut_in_middle_if_too_long(alloc, text, MOST_BYTES)?;
     add_str(out, "label=")?;
     add_graphviz_quoted_text(out, text.as_slice())
 }

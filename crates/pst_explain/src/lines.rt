@@ -33,7 +33,7 @@ fn text_or_comment_mode_after_byte(mode: LexerMode, byte: u8) -> LexerMode {
 }
 
 /// Returns the line, from 1, on which each top-level node begins. The file must have no fault.
-pub fn tree_start_lines(alloc: Global, bytes: &[u8]) -> Result<Vec<usize>, AllocError> {
+pub fn top_level_tree_start_lines(alloc: Global, bytes: &[u8]) -> Result<Vec<usize>, AllocError> {
     let mut lines = Vec::new(alloc);
     let mut mode = LexerMode::Plain;
     let mut line = 1usize;

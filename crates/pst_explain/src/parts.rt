@@ -17,7 +17,7 @@ fn is_command_marked(marked: &[u32], number: u32) -> bool {
 }
 
 /// The cell of a command: a mark or a space, its place, its spelling and its reply.
-fn marked_command_cell(
+fn command_cell_with_mark_or_space(
     alloc: Global,
     scene: &Scene<'_>,
     marked: &[u32],
@@ -30,7 +30,7 @@ fn marked_command_cell(
     };
     let mut text = Vec::new(alloc);
     text.push(mark)?;
-    let call = call.text_with_reply(alloc, scene.model)?;
+    let call = call.text_with_reply_or_variable(alloc, scene.model)?;
     text.extend_from_slice(call.as_slice())?;
     Ok(Cell::styled(style, text))
 }
@@ -44,14 +44,14 @@ fn add_case_part_text(
     calls: &[Call<'_>],
 ) -> Result<(), AllocError> {
     for call in calls {
-        let cell = marked_command_cell(alloc, scene, marked, call)?;
+        let cell = command_cell_with_mark_or_space(alloc, scene, marked, call)?;
         page.add_styled_line(alloc, 3, cell.style, cell.text.as_slice())?;
     }
     Ok(())
 }
 
 /// Returns the row of command `index`, from 0, of each branch, with an empty cell for a branch without this command.
-fn row_of_branch_commands(
+fn row_of_command_in_each_branch(
     alloc: Global,
     scene: &Scene<'_>,
     marked: &[u32],
@@ -60,7 +60,7 @@ fn row_of_branch_commands(
     let mut row = Vec::new(alloc);
     for branch in &scene.calls.branches {
         match branch.get(index) {
-            Some(call) => row.push(marked_command_cell(alloc, scene, marked, call)?)?,
+            Some(call) => row.push(command_cell_with_mark_or_space(alloc, scene, marked, call)?)?,
             None => row.push(Cell::plain(Vec::new(alloc)))?,
         }
     }
@@ -98,10 +98,10 @@ fn add_branches_in_columns_or_stacked(
 ) -> Result<(), AllocError> {
     let mut table = Table::new(alloc)?;
     for index in 0..longest_branch_length(scene) {
-        table.add_row(row_of_branch_commands(alloc, scene, marked, index)?)?;
+        table.add_row(row_of_command_in_each_branch(alloc, scene, marked, index)?)?;
     }
     if table.has_wide_enough_columns(page, 3, LEAST_COLUMN) {
-        return table.write(page, alloc, 3);
+        return table.write_in_columns_cut_to_fit(page, alloc, 3);
     }
     add_branches_as_lines(page, alloc, scene, marked)
 }

@@ -12,27 +12,27 @@ use pst_scene::{
 };
 use std::alloc::{AllocError, Global};
 
-/// The commands before command `number` in an interleaving that begins with `word`.
+/// The commands before command `number` in an interleaving that begins with `interleaving`.
 fn calls_before_numbered_call<'a>(
     alloc: Global,
     scene: &Scene<'a>,
-    word: &[usize],
+    interleaving: &[usize],
     number: u32,
 ) -> Result<Vec<Call<'a>>, AllocError> {
     match call_numbered(scene.all.as_slice(), number) {
-        Some(call) => calls_before_call_in_interleaving(alloc, scene, word, &call),
+        Some(call) => calls_before_call_in_interleaving(alloc, scene, interleaving, &call),
         None => Ok(Vec::new(alloc)),
     }
 }
 
-/// The commands before command `number`, which faults after `word`.
+/// The commands before command `number`, which faults after `interleaving`.
 fn calls_before_fault<'a>(
     alloc: Global,
     scene: &Scene<'a>,
-    word: &[usize],
+    interleaving: &[usize],
     number: u32,
 ) -> Result<Vec<Call<'a>>, AllocError> {
-    let mut whole = Vec::from_slice(alloc, word)?;
+    let mut whole = Vec::from_slice(alloc, interleaving)?;
     if let Some(call) = call_numbered(scene.all.as_slice(), number) {
         if let CasePart::Branch(branch) = call.part {
             whole.push(branch)?;
@@ -43,7 +43,7 @@ fn calls_before_fault<'a>(
 
 /// The commands of a verdict's interleaving: of the one that explains or, as far as their postconditions are true, of
 /// the first that faults or of the one that gets furthest.
-fn calls_in_verdict_order_until_failure<'a, C: Callbacks>(
+fn calls_in_verdict_interleaving_until_failure<'a, C: Callbacks>(
     callbacks: &C,
     alloc: Global,
     scene: &Scene<'a>,
@@ -55,18 +55,18 @@ fn calls_in_verdict_order_until_failure<'a, C: Callbacks>(
 {
     let shaped = &scene.run.shaped;
     match verdict {
-        Verdict::Explained(word) => calls_in_interleaving_order(
+        Verdict::Explained(interleaving) => calls_in_interleaving_order(
             alloc,
             &scene.calls,
-            word.as_slice(),
+            interleaving.as_slice(),
         ),
         Verdict::Faulted(place) => {
-            let (_, word) = verdict_with_interleaving(callbacks, alloc, shaped, history)?;
-            calls_before_fault(alloc, scene, word.as_slice(), place.command)
+            let (_, interleaving) = verdict_with_interleaving(callbacks, alloc, shaped, history)?;
+            calls_before_fault(alloc, scene, interleaving.as_slice(), place.command)
         }
         Verdict::Unexplained(far) => {
-            let (_, word) = verdict_with_interleaving(callbacks, alloc, shaped, history)?;
-            let order = calls_in_interleaving_order(alloc, &scene.calls, word.as_slice())?;
+            let (_, interleaving) = verdict_with_interleaving(callbacks, alloc, shaped, history)?;
+            let order = calls_in_interleaving_order(alloc, &scene.calls, interleaving.as_slice())?;
             first_calls(alloc, order.as_slice(), *far)
         }
         Verdict::Broken(_) => Ok(Vec::new(alloc)),
@@ -102,7 +102,7 @@ pub fn calls_of_displayed_interleaving<'a, C: Callbacks>(
 {
     match judged {
         Judged::Verdict(verdict) => match &scene.run.history {
-            Some(history) => calls_in_verdict_order_until_failure(
+            Some(history) => calls_in_verdict_interleaving_until_failure(
                 callbacks, alloc, scene, history, verdict,
             ),
             None => Ok(Vec::new(alloc)),

@@ -1,6 +1,6 @@
 //! The places at which the trees of an input begin.
 
-use crate::lines::tree_start_lines;
+use crate::lines::top_level_tree_start_lines;
 use pst_sources::SourceFile;
 use std::alloc::{AllocError, Global};
 
@@ -45,7 +45,7 @@ fn count_input_lines_of_file(file: &SourceFile<'_>) -> usize {
 }
 
 /// Returns how many lines of the text of an input are lines of each file. One file has all lines.
-fn line_counts_of_files_or_max_for_one(
+fn file_line_counts_or_max_if_single(
     alloc: Global,
     files: &[SourceFile<'_>],
 ) -> Result<Vec<usize>, AllocError> {
@@ -93,8 +93,8 @@ pub fn tree_places_in_input<'a>(
     files: &[SourceFile<'a>],
     text: &[u8],
 ) -> Result<Vec<TreePlace<'a>>, AllocError> {
-    let counts = line_counts_of_files_or_max_for_one(alloc, files)?;
-    let lines = tree_start_lines(alloc, text)?;
+    let counts = file_line_counts_or_max_if_single(alloc, files)?;
+    let lines = top_level_tree_start_lines(alloc, text)?;
     let mut places = Vec::new(alloc);
     for line in &lines {
         places.push(place_of_input_line(files, counts.as_slice(), *line))?;

@@ -23,7 +23,7 @@ fn index_of_case_part(scene: &Scene<'_>, part: CasePart) -> usize {
 }
 
 /// The counts of the position before all commands.
-fn zero_for_each_part(alloc: Global, scene: &Scene<'_>) -> Result<Vec<usize>, AllocError> {
+fn zero_count_for_each_part(alloc: Global, scene: &Scene<'_>) -> Result<Vec<usize>, AllocError> {
     let mut counts = Vec::new(alloc);
     counts.push(0)?;
     for _branch in &scene.calls.branches {
@@ -40,7 +40,7 @@ impl GraphPosition {
         scene: &Scene<'_>,
         state: Value,
     ) -> Result<GraphPosition, AllocError> {
-        let counts = zero_for_each_part(alloc, scene)?;
+        let counts = zero_count_for_each_part(alloc, scene)?;
         Ok(GraphPosition { counts, state })
     }
 

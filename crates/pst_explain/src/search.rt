@@ -1,7 +1,7 @@
 //! The search of an item: positions, and the commands that it tries there.
 
 use crate::position::GraphPosition;
-use pst_scene::{Call, DeadEnd, Outcome, Scene, initial_state, outcome_of_call_on_state};
+use pst_scene::{Call, DeadEnd, Outcome, Scene, evaluate_initial_state, outcome_of_call_on_state};
 use std::alloc::{AllocError, Global};
 
 /// The search expands the first positions, up to this number, and those along the displayed interleaving.
@@ -9,7 +9,7 @@ const MOST_POSITIONS: usize = 300;
 
 /// The target of a command.
 #[derive(Drop)]
-pub enum MoveTarget<'a> {
+pub enum GraphMoveTarget<'a> {
     /// The command leads to the position with this number.
     Position(usize),
     /// The command cannot come next there.
@@ -24,7 +24,7 @@ pub struct GraphMove<'a> {
     /// The command.
     pub call: Call<'a>,
     /// The target of the command.
-    pub target: MoveTarget<'a>,
+    pub target: GraphMoveTarget<'a>,
 }
 
 /// A search, or the beginning of one.
@@ -50,7 +50,7 @@ fn index_of_position(positions: &[GraphPosition], wanted: &GraphPosition) -> Opt
 }
 
 /// The number of the move that a command makes at a position, and the position that it leads to.
-fn move_and_target_unless_dead_end(
+fn find_command_move_and_target_position(
     moves: &[GraphMove<'_>],
     from: usize,
     command: u32,
@@ -58,8 +58,8 @@ fn move_and_target_unless_dead_end(
     for (number, step) in moves.iter().enumerate() {
         if step.from == from && step.call.number == command {
             return match step.target {
-                MoveTarget::Position(to) => Some((number, to)),
-                MoveTarget::DeadEnd(_) => None,
+                GraphMoveTarget::Position(to) => Some((number, to)),
+                GraphMoveTarget::DeadEnd(_) => None,
             };
         }
     }
@@ -87,7 +87,7 @@ impl<'a> SearchGraph<'a> {
     }
 
     /// Tries a command at position `from`.
-    fn add_move_of_call(
+    fn add_move_and_target_of_call(
         &mut self,
         alloc: Global,
         scene: &Scene<'a>,
@@ -98,16 +98,16 @@ impl<'a> SearchGraph<'a> {
         let target = match outcome_of_call_on_state(alloc, scene, &position.state, &call)? {
             Outcome::Leads(state) => {
                 let next = position.after_call(alloc, scene, call.part, state)?;
-                MoveTarget::Position(self.find_or_add_position(next)?)
+                GraphMoveTarget::Position(self.find_or_add_position(next)?)
             }
-            Outcome::Refused(why) => MoveTarget::DeadEnd(why),
+            Outcome::Refused(why) => GraphMoveTarget::DeadEnd(why),
         };
         self.moves.push(GraphMove { from, call, target })?;
         Ok(())
     }
 
     /// Tries each command that may come next at position `from`.
-    fn add_moves_of_next_calls(
+    fn add_next_moves_and_targets(
         &mut self,
         alloc: Global,
         scene: &Scene<'a>,
@@ -116,7 +116,7 @@ impl<'a> SearchGraph<'a> {
     ) -> Result<(), AllocError> {
         let next = position.next_calls(alloc, scene)?;
         for call in &next {
-            self.add_move_of_call(alloc, scene, from, position, *call)?;
+            self.add_move_and_target_of_call(alloc, scene, from, position, *call)?;
         }
         Ok(())
     }
@@ -132,11 +132,11 @@ impl<'a> SearchGraph<'a> {
             return Ok(());
         };
         let position = position.copy(alloc)?;
-        self.add_moves_of_next_calls(alloc, scene, from, &position)
+        self.add_next_moves_and_targets(alloc, scene, from, &position)
     }
 
     /// Expands the positions along the commands, and notes their moves.
-    fn expand_and_mark_shown_along_calls(
+    fn expand_along_calls_noting_shown_moves(
         &mut self,
         alloc: Global,
         scene: &Scene<'a>,
@@ -145,7 +145,7 @@ impl<'a> SearchGraph<'a> {
         let mut at = 0usize;
         self.expand_position(alloc, scene, at)?;
         for call in calls {
-            let Some((number, next)) = move_and_target_unless_dead_end(
+            let Some((number, next)) = find_command_move_and_target_position(
                 self.moves.as_slice(),
                 at,
                 call.number,
@@ -165,7 +165,7 @@ impl<'a> SearchGraph<'a> {
     }
 
     /// Expands each position until there are more than `most`, and returns whether there are at most `most`.
-    fn expand_all_within_limit(
+    fn try_expanding_all_within_limit(
         &mut self,
         alloc: Global,
         scene: &Scene<'a>,
@@ -204,22 +204,22 @@ fn build_search_graph_along_calls<'a>(
     shown: &[Call<'_>],
 ) -> Result<SearchGraph<'a>, AllocError> {
     let mut search = SearchGraph::empty(alloc);
-    let Some(state) = initial_state(alloc, scene)? else {
+    let Some(state) = evaluate_initial_state(alloc, scene)? else {
         return Ok(search);
     };
     let first = GraphPosition::initial(alloc, scene, state)?;
     search.positions.push(first)?;
-    search.expand_and_mark_shown_along_calls(alloc, scene, shown)?;
+    search.expand_along_calls_noting_shown_moves(alloc, scene, shown)?;
     Ok(search)
 }
 
 /// The new number of position `number`, if only the positions `kept` stay.
-fn renumbered_position(kept: &[usize], number: usize) -> usize {
+fn position_number_among_kept(kept: &[usize], number: usize) -> usize {
     kept.iter().filter(|other| **other < number).count()
 }
 
 /// The numbers of the positions along the displayed interleaving.
-fn positions_along_shown_interleaving(
+fn position_numbers_along_shown_interleaving(
     alloc: Global,
     search: &SearchGraph<'_>,
 ) -> Result<Vec<usize>, AllocError> {
@@ -229,7 +229,7 @@ fn positions_along_shown_interleaving(
     }
     for number in &search.shown {
         if let Some(step) = search.moves.get(*number) {
-            if let MoveTarget::Position(to) = step.target {
+            if let GraphMoveTarget::Position(to) = step.target {
                 numbers.push(to)?;
             }
         }
@@ -240,14 +240,16 @@ fn positions_along_shown_interleaving(
 /// Whether a move is from one of the positions `kept`, and is along the displayed interleaving or
 /// leads to a dead end.
 fn is_move_kept(step: &GraphMove<'_>, is_shown: bool, kept: &[usize]) -> bool {
-    kept.contains(&step.from) && (is_shown || matches!(step.target, MoveTarget::DeadEnd(_)))
+    kept.contains(&step.from) && (is_shown || matches!(step.target, GraphMoveTarget::DeadEnd(_)))
 }
 
 /// The target of a move, with its new number if only the positions `kept` stay.
-fn renumbered_target<'a>(target: MoveTarget<'a>, kept: &[usize]) -> MoveTarget<'a> {
+fn renumbered_target<'a>(target: GraphMoveTarget<'a>, kept: &[usize]) -> GraphMoveTarget<'a> {
     match target {
-        MoveTarget::Position(to) => MoveTarget::Position(renumbered_position(kept, to)),
-        MoveTarget::DeadEnd(why) => MoveTarget::DeadEnd(why),
+        GraphMoveTarget::Position(to) => GraphMoveTarget::Position(position_number_among_kept(
+            kept, to,
+        )),
+        GraphMoveTarget::DeadEnd(why) => GraphMoveTarget::DeadEnd(why),
     }
 }
 
@@ -255,7 +257,7 @@ fn renumbered_target<'a>(target: MoveTarget<'a>, kept: &[usize]) -> MoveTarget<'
 fn renumbered_move<'a>(step: GraphMove<'a>, kept: &[usize]) -> GraphMove<'a> {
     let GraphMove { from, call, target } = step;
     GraphMove {
-        from: renumbered_position(kept, from),
+        from: position_number_among_kept(kept, from),
         call,
         target: renumbered_target(target, kept),
     }
@@ -264,7 +266,7 @@ fn renumbered_move<'a>(step: GraphMove<'a>, kept: &[usize]) -> GraphMove<'a> {
 impl<'a> SearchGraph<'a> {
     /// Adds a move of a larger search, of which the positions `kept` stay, if the move is along the displayed
     /// interleaving or leads to a dead end.
-    fn add_move_if_shown_or_dead_end(
+    fn add_renumbered_move_if_kept(
         &mut self,
         step: GraphMove<'a>,
         is_shown: bool,
@@ -284,14 +286,14 @@ impl<'a> SearchGraph<'a> {
 
     /// Adds those moves of a larger search, of which the positions `kept` stay, that are along the
     /// displayed interleaving or lead to a dead end. `shown` has the numbers of the former.
-    fn add_moves_shown_or_to_dead_ends(
+    fn add_renumbered_kept_moves(
         &mut self,
         moves: Vec<GraphMove<'a>>,
         shown: &[usize],
         kept: &[usize],
     ) -> Result<(), AllocError> {
         for (number, step) in moves.into_iter().enumerate() {
-            self.add_move_if_shown_or_dead_end(step, shown.contains(&number), kept)?;
+            self.add_renumbered_move_if_kept(step, shown.contains(&number), kept)?;
         }
         Ok(())
     }
@@ -312,13 +314,13 @@ impl<'a> SearchGraph<'a> {
 }
 
 /// The search graph of the displayed interleaving and of the dead ends next to it.
-pub fn build_search_graph_of_interleaving<'a>(
+pub fn build_interleaving_graph_with_dead_ends<'a>(
     alloc: Global,
     scene: &Scene<'a>,
     shown: &[Call<'_>],
 ) -> Result<SearchGraph<'a>, AllocError> {
     let search = build_search_graph_along_calls(alloc, scene, shown)?;
-    let kept = positions_along_shown_interleaving(alloc, &search)?;
+    let kept = position_numbers_along_shown_interleaving(alloc, &search)?;
     let mut path = SearchGraph::empty(alloc);
     let SearchGraph {
         positions,
@@ -326,13 +328,13 @@ pub fn build_search_graph_of_interleaving<'a>(
         shown,
     } = search;
     path.add_kept_positions(positions, kept.as_slice())?;
-    path.add_moves_shown_or_to_dead_ends(moves, shown.as_slice(), kept.as_slice())?;
+    path.add_renumbered_kept_moves(moves, shown.as_slice(), kept.as_slice())?;
     Ok(path)
 }
 
 /// The search of an item from its initial state on. It first expands the positions along the displayed interleaving,
 /// and then the others in the order in which it met them, up to the limit.
-pub fn build_truncated_search_graph<'a>(
+pub fn build_search_graph_up_to_limit<'a>(
     alloc: Global,
     scene: &Scene<'a>,
     shown: &[Call<'_>],
@@ -351,7 +353,7 @@ pub fn build_search_graph_if_small<'a>(
     most: usize,
 ) -> Result<Option<SearchGraph<'a>>, AllocError> {
     let mut search = build_search_graph_along_calls(alloc, scene, shown)?;
-    if search.expand_all_within_limit(alloc, scene, most)? {
+    if search.try_expanding_all_within_limit(alloc, scene, most)? {
         Ok(Some(search))
     } else {
         Ok(None)

@@ -1,18 +1,20 @@
 //! The text of explanations.
 
 use crate::breaking::{CallWithBrokenReply, broken_reply_sentence};
-use crate::core_text::add_core_explanation_text;
+use crate::core_text::add_optional_core_and_run_text;
 use crate::explanation::{Explanation, JudgementReason};
 use crate::failure_text::add_failure_explanation_text;
 use crate::parts::add_marked_run_text;
 use crate::walk_text::{
-    add_blocked_calls_text, add_explaining_interleaving_text, add_interleaving_states_text,
+    add_blocked_calls_text, add_explaining_interleaving_with_precondition_notes,
+    add_interleaving_states_text,
 };
 use crate::walks::InterleavingStates;
 use pst_judge::{Judged, Verdict};
 use pst_model::Source;
 use pst_scene::{
-    Page, Scene, Style, add_interleaving_letters, add_number, add_str, copy_explanation_text,
+    Page, Scene, Style, add_interleaving_letters_or_dash, add_number, add_str,
+    copy_explanation_text,
 };
 use std::alloc::{AllocError, Global};
 
@@ -50,7 +52,7 @@ fn add_count_of_holding_events(text: &mut Vec<u8>, far: usize) -> Result<(), All
 }
 
 /// Returns a sentence that says that in every interleaving `far` events hold before one does not.
-fn sentence_on_every_interleaving(alloc: Global, far: usize) -> Result<Vec<u8>, AllocError> {
+fn sentence_on_equally_far_interleavings(alloc: Global, far: usize) -> Result<Vec<u8>, AllocError> {
     let mut text = copy_explanation_text(alloc, "In every interleaving ")?;
     add_count_of_holding_events(&mut text, far)?;
     add_str(&mut text, " before one does not:")?;
@@ -58,11 +60,11 @@ fn sentence_on_every_interleaving(alloc: Global, far: usize) -> Result<Vec<u8>, 
 }
 
 /// Returns a sentence on the interleaving that gets furthest: `far` events hold in it before one does not, and it begins
-/// with `word`. If `word` is empty, every interleaving gets as far.
+/// with `interleaving`. If `interleaving` is empty, every interleaving gets as far.
 fn furthest_interleaving_sentence(
     alloc: Global,
     far: usize,
-    word: &[usize],
+    interleaving: &[usize],
 ) -> Result<Vec<u8>, AllocError> {
     if far == 0 {
         return copy_explanation_text(
@@ -70,11 +72,11 @@ fn furthest_interleaving_sentence(
             "In every interleaving the first event does not hold:",
         );
     }
-    if word.is_empty() {
-        return sentence_on_every_interleaving(alloc, far);
+    if interleaving.is_empty() {
+        return sentence_on_equally_far_interleavings(alloc, far);
     }
     let mut text = copy_explanation_text(alloc, "No interleaving gets further than ")?;
-    add_interleaving_letters(&mut text, word)?;
+    add_interleaving_letters_or_dash(&mut text, interleaving)?;
     add_str(&mut text, ", where ")?;
     add_count_of_holding_events(&mut text, far)?;
     add_str(&mut text, ":")?;
@@ -94,10 +96,10 @@ fn add_furthest_interleaving_text(
     walk: Option<&InterleavingStates<'_>>,
 ) -> Result<(), AllocError> {
     let Some(walk) = walk else {
-        return page.add_sentence(alloc, 2, NO_FURTHEST.as_bytes());
+        return page.add_wrapped_sentence(alloc, 2, NO_FURTHEST.as_bytes());
     };
-    let sentence = furthest_interleaving_sentence(alloc, far, walk.word.as_slice())?;
-    page.add_sentence(alloc, 2, sentence.as_slice())?;
+    let sentence = furthest_interleaving_sentence(alloc, far, walk.interleaving.as_slice())?;
+    page.add_wrapped_sentence(alloc, 2, sentence.as_slice())?;
     add_interleaving_states_text(page, alloc, model, walk)?;
     add_blocked_calls_text(page, alloc, model, walk.stopped.as_slice())
 }
@@ -111,9 +113,9 @@ fn add_broken_reply_and_run_text(
 ) -> Result<(), AllocError> {
     if let Some(mut sentence) = broken_reply_sentence(alloc, scene.model, broken)? {
         add_str(&mut sentence, ".")?;
-        page.add_sentence(alloc, 2, sentence.as_slice())?;
+        page.add_wrapped_sentence(alloc, 2, sentence.as_slice())?;
     }
-    page.add_sentence(alloc, 2, b"The run, with * before this command:")?;
+    page.add_wrapped_sentence(alloc, 2, b"The run, with * before this command:")?;
     add_marked_run_text(page, alloc, scene, &[broken.number])
 }
 
@@ -125,7 +127,7 @@ fn add_judgement_reason_text(
     reason: &JudgementReason<'_>,
 ) -> Result<(), AllocError> {
     match reason {
-        JudgementReason::Explained(walk) => add_explaining_interleaving_text(
+        JudgementReason::Explained(walk) => add_explaining_interleaving_with_precondition_notes(
             page,
             alloc,
             scene.model,
@@ -136,12 +138,12 @@ fn add_judgement_reason_text(
             core,
             furthest,
         } => {
-            add_core_explanation_text(page, alloc, scene, core.as_ref())?;
+            add_optional_core_and_run_text(page, alloc, scene, core.as_ref())?;
             add_furthest_interleaving_text(page, alloc, scene.model, *far, furthest.as_ref())
         }
         JudgementReason::Faulted { failure, core } => {
             add_failure_explanation_text(page, alloc, scene, failure)?;
-            add_core_explanation_text(page, alloc, scene, core.as_ref())
+            add_optional_core_and_run_text(page, alloc, scene, core.as_ref())
         }
         JudgementReason::Broken(broken) => add_broken_reply_and_run_text(
             page, alloc, scene, broken,
@@ -182,7 +184,7 @@ pub fn append_explanation_text(
     explanation: &Explanation<'_>,
     width: usize,
 ) -> Result<Vec<u8>, AllocError> {
-    let mut page = Page::after(text, width);
+    let mut page = Page::plain_after(text, width);
     add_explanation_to_page(&mut page, alloc, explanation)?;
     Ok(page.into_text())
 }

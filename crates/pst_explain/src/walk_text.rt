@@ -39,14 +39,14 @@ pub fn add_interleaving_states_text(
     add_state_cell_and_end_row(&mut table, alloc, model, start)?;
     for step in &walk.steps {
         step.call
-            .add_text_with_reply(&mut table.text, alloc, model)?;
+            .add_text_with_reply_or_variable(&mut table.text, alloc, model)?;
         add_state_cell_and_end_row(&mut table, alloc, model, &step.state)?;
     }
-    table.write_or_stack(page, alloc, 4)
+    table.write_in_columns_or_stacked(page, alloc, 4)
 }
 
 /// The sentence on a precondition that is not true.
-fn precondition_note_on_explained_run(
+fn sentence_on_precondition_unless_true(
     alloc: Global,
     model: &Source,
     call: &Call<'_>,
@@ -81,7 +81,7 @@ fn precondition_note_on_explained_run(
 }
 
 /// Adds the interleaving that explains an item, and the preconditions that are not true along it.
-pub fn add_explaining_interleaving_text(
+pub fn add_explaining_interleaving_with_precondition_notes(
     page: &mut Page,
     alloc: Global,
     model: &Source,
@@ -89,14 +89,14 @@ pub fn add_explaining_interleaving_text(
 ) -> Result<(), AllocError> {
     add_interleaving_states_text(page, alloc, model, walk)?;
     for step in &walk.steps {
-        let sentence = precondition_note_on_explained_run(
+        let sentence = sentence_on_precondition_unless_true(
             alloc,
             model,
             &step.call,
             step.precondition,
         )?;
         if let Some(sentence) = sentence {
-            page.add_sentence(alloc, 2, sentence.as_slice())?;
+            page.add_wrapped_sentence(alloc, 2, sentence.as_slice())?;
         }
     }
     Ok(())
@@ -109,7 +109,7 @@ fn add_blocked_call_row(
     model: &Source,
     stop: &BlockedCall<'_>,
 ) -> Result<(), AllocError> {
-    let text = stop.call.text_with_reply(alloc, model)?;
+    let text = stop.call.text_with_reply_or_variable(alloc, model)?;
     let why = dead_end_text(alloc, model, &stop.why)?;
     table.add_row(row_of_two_plain_cells(alloc, text, why)?)
 }
@@ -121,7 +121,7 @@ pub fn add_blocked_calls_text(
     model: &Source,
     stopped: &[BlockedCall<'_>],
 ) -> Result<(), AllocError> {
-    page.add_sentence(
+    page.add_wrapped_sentence(
         alloc,
         2,
         if stopped.len() == 1 {
@@ -134,5 +134,5 @@ pub fn add_blocked_calls_text(
     for stop in stopped {
         add_blocked_call_row(&mut table, alloc, model, stop)?;
     }
-    table.write_or_stack(page, alloc, 4)
+    table.write_in_columns_or_stacked(page, alloc, 4)
 }

@@ -10,8 +10,8 @@ use pst_judge::{Condition, Postconditions, verdict_with_interleaving};
 use pst_reasons::{RecordedRun, SomePostconditions, states};
 use pst_scene::{
     Call, CasePart, DeadEnd, Outcome, PreAnswer, Scene, calls_in_interleaving_order,
-    calls_that_may_come_next, evaluate_precondition, falsity_of_postcondition,
-    outcome_of_call_on_state,
+    calls_that_may_come_next, evaluate_precondition, outcome_of_call_on_state,
+    why_postcondition_is_not_true,
 };
 use pst_value::Value;
 use std::alloc::{AllocError, Global};
@@ -37,7 +37,7 @@ pub struct BlockedCall<'a> {
 #[derive(Drop)]
 pub struct InterleavingStates<'a> {
     /// The branches, from 0, of the letters that name the interleaving.
-    pub word: Vec<usize>,
+    pub interleaving: Vec<usize>,
     /// The initial state; `None` if `init` faults.
     pub start: Option<Value>,
     /// The commands in their order.
@@ -59,13 +59,13 @@ impl<'a> InterleavingStates<'a> {
     }
 }
 
-/// Returns the walk of the interleaving `word`, without any state.
+/// Returns the walk of `interleaving`, without any state.
 pub fn interleaving_without_states<'a>(
     alloc: Global,
-    word: &[usize],
+    interleaving: &[usize],
 ) -> Result<InterleavingStates<'a>, AllocError> {
     Ok(InterleavingStates {
-        word: Vec::from_slice(alloc, word)?,
+        interleaving: Vec::from_slice(alloc, interleaving)?,
         start: None,
         steps: Vec::new(alloc),
         stopped: Vec::new(alloc),
@@ -73,7 +73,7 @@ pub fn interleaving_without_states<'a>(
 }
 
 /// Returns the step of a command: `before` is the state before it, `state` the one after it.
-fn step_of_call<'a>(
+fn interleaving_step_with_precondition<'a>(
     alloc: Global,
     scene: &Scene<'_>,
     before: &Value,
@@ -89,7 +89,7 @@ fn step_of_call<'a>(
 
 /// Returns the steps along `calls` from the state `first` on, as far as `others` has the states
 /// after them.
-fn steps_along_calls<'a>(
+fn interleaving_steps_along_calls<'a>(
     alloc: Global,
     scene: &Scene<'_>,
     calls: &[Call<'a>],
@@ -99,7 +99,7 @@ fn steps_along_calls<'a>(
     let mut steps = Vec::new(alloc);
     let mut before = first;
     for (call, state) in calls.iter().zip(others) {
-        steps.push(step_of_call(alloc, scene, before, call, state)?)?;
+        steps.push(interleaving_step_with_precondition(alloc, scene, before, call, state)?)?;
         before = state;
     }
     Ok(steps)
@@ -109,18 +109,18 @@ fn steps_along_calls<'a>(
 pub fn interleaving_states_along_calls<'a>(
     alloc: Global,
     scene: &Scene<'_>,
-    word: &[usize],
+    interleaving: &[usize],
     calls: &[Call<'a>],
     states: &[Value],
 ) -> Result<InterleavingStates<'a>, AllocError> {
     let Some((first, others)) = states.split_first() else {
-        return interleaving_without_states(alloc, word);
+        return interleaving_without_states(alloc, interleaving);
     };
-    let word = Vec::from_slice(alloc, word)?;
+    let interleaving = Vec::from_slice(alloc, interleaving)?;
     let start = first.copy(alloc)?;
-    let steps = steps_along_calls(alloc, scene, calls, first, others)?;
+    let steps = interleaving_steps_along_calls(alloc, scene, calls, first, others)?;
     Ok(InterleavingStates {
-        word,
+        interleaving,
         start: Some(start),
         steps,
         stopped: Vec::new(alloc),
@@ -129,13 +129,13 @@ pub fn interleaving_states_along_calls<'a>(
 
 /// Returns the branch of each command that is in a branch.
 fn interleaving_of_calls(alloc: Global, calls: &[Call<'_>]) -> Result<Vec<usize>, AllocError> {
-    let mut word = Vec::new(alloc);
+    let mut interleaving = Vec::new(alloc);
     for call in calls {
         if let CasePart::Branch(branch) = call.part {
-            word.push(branch)?;
+            interleaving.push(branch)?;
         }
     }
-    Ok(word)
+    Ok(interleaving)
 }
 
 /// Adds the command to `stopped` if it cannot come next on `state`.
@@ -159,8 +159,8 @@ pub fn blocked_calls_after<'a>(
     calls: &[Call<'_>],
     state: &Value,
 ) -> Result<Vec<BlockedCall<'a>>, AllocError> {
-    let word = interleaving_of_calls(alloc, calls)?;
-    let next = calls_that_may_come_next(alloc, &scene.calls, word.as_slice(), calls.len())?;
+    let interleaving = interleaving_of_calls(alloc, calls)?;
+    let next = calls_that_may_come_next(alloc, &scene.calls, interleaving.as_slice(), calls.len())?;
     let mut stopped = Vec::new(alloc);
     for call in &next {
         add_call_if_blocked(&mut stopped, alloc, scene, call, state)?;
@@ -168,38 +168,44 @@ pub fn blocked_calls_after<'a>(
     Ok(stopped)
 }
 
-/// Returns the walk of the interleaving `word`, up to the first command of which `condition` is not true.
-fn interleaving_states_until_failure<'a, C: Callbacks, A: Condition>(
+/// Returns the walk of `interleaving`, up to the first command of which `condition` is not true.
+fn interleaving_states_while_condition_true<'a, C: Callbacks, A: Condition>(
     callbacks: &C,
     condition: &A,
     alloc: Global,
     scene: &Scene<'a>,
     history: &History,
-    word: &[usize],
+    interleaving: &[usize],
 ) -> Result<InterleavingStates<'a>, AllocError>
     requires shaped { scene.now.run.now.shaped.model ≡ C.model callbacks.now }
     requires matches { matches (C.model callbacks.now) scene.now.run.now.shaped.case history.now ≡ true }
     requires answered { first_broken 1 (recorded history.now) ≡ None }
 {
-    let order = calls_in_interleaving_order(alloc, &scene.calls, word)?;
+    let order = calls_in_interleaving_order(alloc, &scene.calls, interleaving)?;
     let run = RecordedRun {
         callbacks,
         alloc,
         shaped: &scene.run.shaped,
         history,
     };
-    let states = states(&run, condition, word)?;
-    interleaving_states_along_calls(alloc, scene, word, order.as_slice(), states.as_slice())
+    let states = states(&run, condition, interleaving)?;
+    interleaving_states_along_calls(
+        alloc,
+        scene,
+        interleaving,
+        order.as_slice(),
+        states.as_slice(),
+    )
 }
 
-/// Returns the walk of the interleaving `word`, which explains the item: since each postcondition is true along it, none
+/// Returns the walk of `interleaving`, which explains the item: since each postcondition is true along it, none
 /// is evaluated again.
 pub fn states_of_explaining_interleaving<'a, C: Callbacks>(
     callbacks: &C,
     alloc: Global,
     scene: &Scene<'a>,
     history: &History,
-    word: &[usize],
+    interleaving: &[usize],
 ) -> Result<InterleavingStates<'a>, AllocError>
     requires shaped { scene.now.run.now.shaped.model ≡ C.model callbacks.now }
     requires matches { matches (C.model callbacks.now) scene.now.run.now.shaped.case history.now ≡ true }
@@ -209,11 +215,11 @@ pub fn states_of_explaining_interleaving<'a, C: Callbacks>(
         first: &[],
         rest: &[],
     };
-    interleaving_states_until_failure(callbacks, &none, alloc, scene, history, word)
+    interleaving_states_while_condition_true(callbacks, &none, alloc, scene, history, interleaving)
 }
 
 /// Returns each of the commands `next`, with the reason why its postcondition is not true on `state`.
-fn calls_blocked_by_postcondition<'a>(
+fn calls_with_reasons_for_false_postconditions<'a>(
     alloc: Global,
     scene: &Scene<'a>,
     next: &[Call<'a>],
@@ -221,14 +227,14 @@ fn calls_blocked_by_postcondition<'a>(
 ) -> Result<Vec<BlockedCall<'a>>, AllocError> {
     let mut stopped = Vec::new(alloc);
     for call in next {
-        let why = DeadEnd::PostFails(falsity_of_postcondition(alloc, scene, call, state)?);
+        let why = DeadEnd::PostFails(why_postcondition_is_not_true(alloc, scene, call, state)?);
         stopped.push(BlockedCall { call: *call, why })?;
     }
     Ok(stopped)
 }
 
 /// Returns the interleaving that gets furthest: `far` commands are right in it before a wrong one.
-pub fn states_of_furthest_interleaving<'a, C: Callbacks>(
+pub fn furthest_interleaving_with_blocked_calls<'a, C: Callbacks>(
     callbacks: &C,
     alloc: Global,
     scene: &Scene<'a>,
@@ -240,18 +246,23 @@ pub fn states_of_furthest_interleaving<'a, C: Callbacks>(
     requires answered { first_broken 1 (recorded history.now) ≡ None }
 {
     let shaped = &scene.run.shaped;
-    let (_, word) = verdict_with_interleaving(callbacks, alloc, shaped, history)?;
-    let mut walk = interleaving_states_until_failure(
+    let (_, interleaving) = verdict_with_interleaving(callbacks, alloc, shaped, history)?;
+    let mut walk = interleaving_states_while_condition_true(
         callbacks,
         &Postconditions,
         alloc,
         scene,
         history,
-        word.as_slice(),
+        interleaving.as_slice(),
     )?;
-    let next = calls_that_may_come_next(alloc, &scene.calls, word.as_slice(), far)?;
+    let next = calls_that_may_come_next(alloc, &scene.calls, interleaving.as_slice(), far)?;
     let stopped = match walk.last_state() {
-        Some(state) => calls_blocked_by_postcondition(alloc, scene, next.as_slice(), state)?,
+        Some(state) => calls_with_reasons_for_false_postconditions(
+            alloc,
+            scene,
+            next.as_slice(),
+            state,
+        )?,
         None => Vec::new(alloc),
     };
     walk.stopped = stopped;

@@ -20,7 +20,7 @@ use std::alloc::{AllocError, Global};
 const MAX_PARALLEL: usize = 16;
 
 /// How many of the commands before the suffix may run in parallel: none if there is one branch.
-fn most_parallel(branches: u32, before: &[Command]) -> usize
+fn parallel_command_limit(branches: u32, before: &[Command]) -> usize
     ensures { result ≡ most branches before.now }
 {
     if branches == 1 {
@@ -32,7 +32,7 @@ fn most_parallel(branches: u32, before: &[Command]) -> usize
 
 /// The split by `word` with the most parallel commands, at most `parallel`, that gives an accepted case. The bounds on
 /// the parts of a case are clauses of their own.
-fn longest_split<C: Callbacks>(
+fn valid_case_with_most_parallel_commands<C: Callbacks>(
     callbacks: &C,
     alloc: Global,
     typed: &Typed,
@@ -61,7 +61,7 @@ fn longest_split<C: Callbacks>(
                 unreachable!()
             }
             let fewer = parallel - 1;
-            longest_split(
+            valid_case_with_most_parallel_commands(
                 callbacks, alloc, typed, branches, word, before, suffix, fewer,
             )
         }
@@ -77,7 +77,7 @@ fn longest_split<C: Callbacks>(
 /// shorter) become the suffix. Then it draws one word more, also for an empty script. This word sends the last
 /// of the other commands to the `branches` branches (1 to 4; with 1 it sends none, and the case has two empty
 /// branches): as many, at most 16, as give a valid case that has the shape of the model. It draws no other
-/// word, and none after a fault.
+/// word, and none after a fault. (Five of its eight clauses are the ranges of its numbers.)
 pub fn generate<C: Callbacks, R: Rng>(
     callbacks: &C,
     alloc: Global,
@@ -105,8 +105,8 @@ pub fn generate<C: Callbacks, R: Rng>(
     let script = script.as_slice();
     let word = rng.next_u64();
     let (before, behind) = script.split_at(script.len().saturating_sub(suffix as usize));
-    let parallel = most_parallel(branches, before);
-    let valid = longest_split(
+    let parallel = parallel_command_limit(branches, before);
+    let valid = valid_case_with_most_parallel_commands(
         callbacks, alloc, typed, branches, word, before, behind, parallel,
     )?;
     Ok(Ok(valid))

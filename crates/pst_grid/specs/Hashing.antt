@@ -2,7 +2,7 @@
 use Rattle.std.specs.Prelude.{ℕ, ◌-◌, ◌*◌, ◌/◌, ◌^◌, ◌==◌, List, length, Option, Some, None, if◌then◌else◌, bit_and, bit_xor}
 use Rattle.std.specs.Int.{from_le_bytes, w64}
 use Rattle.std.specs.List.{fold}
-use Rattle.pst_grid.specs.declared.hasher.WordHasher.{WordHasher}
+use Rattle.pst_grid.specs.declared.hasher.PositionHasher.{PositionHasher}
 
 -- the two halves of the 128 bits of a product, joined by xor
 abbrev pub folded_multiply : ℕ → ℕ → ℕ
@@ -21,8 +21,8 @@ after state bs None = fold mixed state bs
 after state bs (Some word) = mixed state word
 
 -- the state after a write: eight bytes are one number, and any others one after another
-abbrev pub write : WordHasher → List ℕ → WordHasher
+abbrev pub write : PositionHasher → List ℕ → PositionHasher
 write h bs = record { state = after h.state bs (word_of bs) }
 
-abbrev pub start : WordHasher
+abbrev pub start : PositionHasher
 start = record { state = 0x243f_6a88_85a3_08d3 }

@@ -44,7 +44,7 @@ impl Model for DoneCounts {
 
 /// The word of these counts, if one word can hold them.
 #[inline(always)]
-fn packed(done: &[usize]) -> Option<u64>
+fn pack_done_counts_if_small(done: &[usize]) -> Option<u64>
     ensures { result ≡ word_for done.now }
 {
     if done.len() > MOST_COUNTS {
@@ -67,7 +67,7 @@ impl DoneCounts {
     pub(crate) fn new(alloc: Global, done: &[usize]) -> Result<DoneCounts, AllocError>
         ensures { IfOk result (λ p. p ≡ done.now) }
     {
-        let packing = match packed(done) {
+        let packing = match pack_done_counts_if_small(done) {
             Some(word) => Packing::Word(word),
             None => Packing::Counts(Box::new(alloc, done.to_vec(alloc)?)?),
         };

@@ -10,7 +10,7 @@ use std::alloc::{AllocError, Global};
 
 /// Runs the rest after the word, which is a whole interleaving, and returns whether the search is for it. If it is not
 /// true to its end, the search notes where it stops. Each clause is a fact on one of the things that the search keeps.
-pub(crate) fn run_to_end<S: Steps>(
+pub(crate) fn run_rest_and_check_goal<S: Steps>(
     alloc: Global,
     steps: &S,
     lengths: &[usize],
@@ -30,11 +30,11 @@ pub(crate) fn run_to_end<S: Steps>(
     let (ending, made) = steps.run_rest(alloc, state)?;
     search.steps = search.steps.saturating_add(made);
     match ending {
-        Ending::AllTrue => Ok(!goal.is_stopped()),
+        Ending::AllTrue => Ok(!goal.wants_stopped_interleaving()),
         Ending::StopsAt(at, why) => {
             let at = search.word.len() + at;
-            search.note(alloc, lengths, at, why)?;
-            Ok(goal.is_stopped())
+            search.note_stop_if_first_or_furthest(alloc, lengths, at, why)?;
+            Ok(goal.wants_stopped_interleaving())
         }
     }
 }

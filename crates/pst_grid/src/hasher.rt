@@ -9,22 +9,22 @@ use std::hash::{BuildHasherDefault, Hasher};
 const MULTIPLIER: u64 = 0x9e37_79b9_7f4a_7c15;
 
 /// Makes the hashers of positions.
-pub(crate) type BuildWordHasher = BuildHasherDefault<WordHasher>;
+pub(crate) type BuildPositionHasher = BuildHasherDefault<PositionHasher>;
 
 /// Hashes numbers of 64 bits by one multiplication each, and other writes byte by byte.
 ///
 /// It is not cryptographic, and its seed is fixed. Most of a position are numbers: how far each branch is, and the
 /// parts of the state.
 #[derive(Clone, Copy, Drop)]
-pub(crate) struct WordHasher {
+pub(crate) struct PositionHasher {
     state: u64,
 }
 
-impl Default for WordHasher {
+impl Default for PositionHasher {
     ghost is_default = { λ h. h ≡ spec.start };
 
-    fn default() -> WordHasher {
-        WordHasher {
+    fn default() -> PositionHasher {
+        PositionHasher {
             state: 0x243f_6a88_85a3_08d3,
         }
     }
@@ -41,7 +41,7 @@ fn folded_multiply(a: u64, b: u64) -> u64
 
 /// The state after a number.
 #[inline(always)]
-fn mixed(state: u64, number: u64) -> u64
+fn mix_number_into_hash(state: u64, number: u64) -> u64
     ensures { result ≡ spec.mixed state number }
 {
     folded_multiply(state ^ number, MULTIPLIER)
@@ -62,17 +62,17 @@ fn number_of_eight_bytes(bytes: &[u8]) -> Option<u64>
 
 /// The state after each byte in turn.
 #[tactic(auto, using(std::proofs::lemmas::List::Sums::fold_more))]
-fn all_mixed(state: u64, bytes: &[u8]) -> u64
+fn mix_each_byte_into_hash(state: u64, bytes: &[u8]) -> u64
     ensures { result ≡ fold spec.mixed state bytes.now }
 {
     let mut mixing = state;
     for byte in bytes {
-        mixing = mixed(mixing, *byte as u64);
+        mixing = mix_number_into_hash(mixing, *byte as u64);
     }
     mixing
 }
 
-impl Hasher for WordHasher {
+impl Hasher for PositionHasher {
     ghost write = { spec.write };
 
     ghost finish = { λ h. h.state };
@@ -84,20 +84,20 @@ impl Hasher for WordHasher {
     #[inline(always)]
     fn write(&mut self, bytes: &[u8]) {
         self.state = match number_of_eight_bytes(bytes) {
-            Some(word) => mixed(self.state, word),
-            None => all_mixed(self.state, bytes),
+            Some(word) => mix_number_into_hash(self.state, word),
+            None => mix_each_byte_into_hash(self.state, bytes),
         };
     }
 
     #[inline(always)]
     #[tactic(auto, using(crate::proofs::Hashing::number_written))]
     fn write_u64(&mut self, i: u64) {
-        self.state = mixed(self.state, i);
+        self.state = mix_number_into_hash(self.state, i);
     }
 
     #[inline(always)]
     #[tactic(auto, using(crate::proofs::Hashing::number_written))]
     fn write_usize(&mut self, i: usize) {
-        self.state = mixed(self.state, i as u64);
+        self.state = mix_number_into_hash(self.state, i as u64);
     }
 }

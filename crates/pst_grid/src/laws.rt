@@ -5,7 +5,7 @@ ghost use Rattle.pst_grid.specs.declared.answer.Ending.{Ending};
 ghost use Rattle.pst_grid.specs.declared.answer.StepOutcome.{StepOutcome};
 
 /// If nothing follows the branches, the run of a word is its run alone.
-pub fn run_without_rest_is_run_of_word<S, F>()
+pub fn run_without_rest_is_interleaving_alone<S, F>()
     ensures { (turn : S → ℕ → ℕ → StepOutcome S F) (rest : S → Ending F) → RunsAlone turn rest }
 {}
 
@@ -16,6 +16,6 @@ pub fn run_is_true_if_all_events_are<S, F>()
 
 /// If no step changes the state, a search makes at most one step per branch for each place, plus those of the rest
 /// once. The number of places is the product of each length plus one.
-pub fn few_steps_in_one_state<S, F>()
+pub fn few_steps_if_state_never_changes<S, F>()
     ensures { (turn : S → ℕ → ℕ → StepOutcome S F) → MakesFewSteps turn }
 {}

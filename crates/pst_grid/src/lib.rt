@@ -9,10 +9,10 @@
 //! [`some`] finds the first interleaving that is true to its end, and [`every`] finds out whether all are. The first of
 //! several interleavings is the lexicographically first. Both functions remember the places and states that they have
 //! searched from, each state in the form of [`Steps::keep`], so they make few steps even if there are many
-//! interleavings, and they run the rest once for each state in which all branches end. [`some_plainly`] returns the
+//! interleavings, and they run the rest once for each state in which all branches end. [`find_first_true_interleaving_plainly`] returns the
 //! same answer as [`some`] and remembers nothing: it is the slow program for tests to compare with.
 //!
-//! [`run_without_rest_is_run_of_word`], [`run_is_true_if_all_events_are`] and [`few_steps_in_one_state`] are laws: they do nothing, and their contracts
+//! [`run_without_rest_is_interleaving_alone`], [`run_is_true_if_all_events_are`] and [`few_steps_if_state_never_changes`] are laws: they do nothing, and their contracts
 //! are theorems about runs and the number of steps.
 //!
 //! A caller defines the steps and the rest by an `impl` of [`Steps`]. `AllocError` means that an allocation failed.
@@ -31,8 +31,9 @@ mod steps;
 
 pub use answer::{Ending, EveryAnswer, SomeAnswer, StepOutcome, StopReason};
 pub use laws::{
-    few_steps_in_one_state, run_is_true_if_all_events_are, run_without_rest_is_run_of_word,
+    few_steps_if_state_never_changes, run_is_true_if_all_events_are,
+    run_without_rest_is_interleaving_alone,
 };
-pub use plain_search::some_plainly;
+pub use plain_search::find_first_true_interleaving_plainly;
 pub use remembering_search::{every, some};
 pub use steps::Steps;

@@ -6,14 +6,14 @@ ghost use Rattle.pst_grid.specs.Covered.{IsExplored};
 ghost use Rattle.pst_grid.specs.StepOutcomes.{AreCommands};
 ghost use Rattle.pst_grid.specs.declared.search.Goal.TheVariants.{ToEnd};
 
-use crate::finish::run_to_end;
-use crate::search::{Goal, SearchProgress, is_done};
+use crate::finish::run_rest_and_check_goal;
+use crate::search::{Goal, SearchProgress, are_all_branches_done};
 use crate::{SomeAnswer, StepOutcome, Steps};
 use std::alloc::{AllocError, Global};
 
 /// Searches the completions of the word, and returns whether one is true to its end. The word is then that one.
 #[cycle(search)]
-fn explore<S: Steps>(
+fn explore_plainly<S: Steps>(
     alloc: Global,
     steps: &S,
     lengths: &[usize],
@@ -27,8 +27,8 @@ fn explore<S: Steps>(
     ensures { IfOk result (IsExplored (S.outcome steps.now) (S.rest steps.now) ToEnd state.now
         (Completes lengths.now search.old.done.items) search.old search.new) }
 {
-    if is_done(lengths, &search.done) {
-        return run_to_end(alloc, steps, lengths, Goal::ToEnd, search, state);
+    if are_all_branches_done(lengths, &search.done) {
+        return run_rest_and_check_goal(alloc, steps, lengths, Goal::ToEnd, search, state);
     }
     for branch in 0..lengths.len() {
         if explore_branch_plainly(alloc, steps, lengths, search, state, branch)? {
@@ -63,15 +63,15 @@ fn explore_branch_plainly<S: Steps>(
     search.steps = search.steps.saturating_add(1);
     match steps.step(alloc, state, branch, index)? {
         StepOutcome::Next(next) => {
-            search.enter(lengths, branch)?;
-            if explore(alloc, steps, lengths, search, &next)? {
+            search.advance_in_branch(lengths, branch)?;
+            if explore_plainly(alloc, steps, lengths, search, &next)? {
                 return Ok(true);
             }
-            search.leave(branch);
+            search.go_back_in_branch(branch);
             Ok(false)
         }
         StepOutcome::Stop(why) => {
-            search.note_next(alloc, lengths, branch, why)?;
+            search.note_stop_by_next_command(alloc, lengths, branch, why)?;
             Ok(false)
         }
     }
@@ -82,7 +82,7 @@ fn explore_branch_plainly<S: Steps>(
 /// each step wherever it meets it, and so the rest.
 ///
 /// The second result is the number of steps, up to `usize::MAX`.
-pub fn some_plainly<S: Steps>(
+pub fn find_first_true_interleaving_plainly<S: Steps>(
     alloc: Global,
     steps: &S,
     lengths: &[usize],
@@ -95,7 +95,7 @@ pub fn some_plainly<S: Steps>(
         (λ r. IsAnswer (S.outcome steps.now) (S.rest steps.now) lengths.now start.now r.0) }
 {
     let mut search = SearchProgress::new(alloc, lengths)?;
-    let found = explore(alloc, steps, lengths, &mut search, start)?;
+    let found = explore_plainly(alloc, steps, lengths, &mut search, start)?;
     let steps_made = search.steps;
     Ok((search.into_answer(found), steps_made))
 }

@@ -4,7 +4,7 @@ ghost use Rattle.pst_grid.specs.Remembered.{IsRemembered};
 
 use crate::Steps;
 use crate::done_counts::DoneCounts;
-use crate::hasher::BuildWordHasher;
+use crate::hasher::BuildPositionHasher;
 use indexmap::IndexSet;
 use std::alloc::{AllocError, Global};
 use std::hash::{Hash, Hasher};
@@ -76,10 +76,10 @@ pub(crate) struct Position<S> {
 }
 
 /// Remembers a place and a state, and returns whether they are new.
-pub(crate) fn remember<S: Steps>(
+pub(crate) fn remember_position_if_new<S: Steps>(
     alloc: Global,
     steps: &S,
-    seen: &mut IndexSet<Position<KeptState<S>>, BuildWordHasher>,
+    seen: &mut IndexSet<Position<KeptState<S>>, BuildPositionHasher>,
     done: &[usize],
     state: &S::State,
 ) -> Result<bool, AllocError>

@@ -8,10 +8,10 @@ ghost use Rattle.pst_grid.specs.Kept.{IsFresh};
 ghost use Rattle.pst_grid.specs.Remembered.{AreAccounted, IsSearched};
 ghost use Rattle.pst_grid.specs.StepOutcomes.{AreCommands};
 
-use crate::finish::run_to_end;
-use crate::hasher::BuildWordHasher;
-use crate::position::{KeptState, Position, remember};
-use crate::search::{Goal, SearchProgress, is_done};
+use crate::finish::run_rest_and_check_goal;
+use crate::hasher::BuildPositionHasher;
+use crate::position::{KeptState, Position, remember_position_if_new};
+use crate::search::{Goal, SearchProgress, are_all_branches_done};
 use crate::{EveryAnswer, SomeAnswer, StepOutcome, Steps};
 use indexmap::IndexSet;
 use std::alloc::{AllocError, Global};
@@ -20,13 +20,13 @@ use std::alloc::{AllocError, Global};
 /// is true to its end, it is then the word, and otherwise it is what the search keeps. Each clause is a fact on one of
 /// the things that the search keeps.
 #[cycle(search)]
-fn explore<S: Steps>(
+fn explore_unless_remembered<S: Steps>(
     alloc: Global,
     steps: &S,
     lengths: &[usize],
     goal: Goal,
     search: &mut SearchProgress<S::Fault>,
-    seen: &mut IndexSet<Position<KeptState<S>>, BuildWordHasher>,
+    seen: &mut IndexSet<Position<KeptState<S>>, BuildPositionHasher>,
     state: &S::State,
 ) -> Result<bool, AllocError>
     requires place { IsAt lengths.now search.old.done.items }
@@ -41,15 +41,15 @@ fn explore<S: Steps>(
         (S.most_rest steps.now) 0 (sum search.old.done.items) state.now
         (Completes lengths.now search.old.done.items) search.old search.new seen.old.keys seen.new.keys) }
 {
-    let ended = is_done(lengths, &search.done);
+    let ended = are_all_branches_done(lengths, &search.done);
     if ended && !steps.has_rest() {
-        return Ok(!goal.is_stopped());
+        return Ok(!goal.wants_stopped_interleaving());
     }
-    if !remember(alloc, steps, seen, &search.done, state)? {
+    if !remember_position_if_new(alloc, steps, seen, &search.done, state)? {
         return Ok(false);
     }
     if ended {
-        return run_to_end(alloc, steps, lengths, goal, search, state);
+        return run_rest_and_check_goal(alloc, steps, lengths, goal, search, state);
     }
     for branch in 0..lengths.len() {
         if explore_branch(alloc, steps, lengths, goal, search, seen, state, branch)? {
@@ -68,7 +68,7 @@ fn explore_branch<S: Steps>(
     lengths: &[usize],
     goal: Goal,
     search: &mut SearchProgress<S::Fault>,
-    seen: &mut IndexSet<Position<KeptState<S>>, BuildWordHasher>,
+    seen: &mut IndexSet<Position<KeptState<S>>, BuildPositionHasher>,
     state: &S::State,
     branch: usize,
 ) -> Result<bool, AllocError>
@@ -92,23 +92,23 @@ fn explore_branch<S: Steps>(
     search.steps = search.steps.saturating_add(1);
     match steps.step(alloc, state, branch, index)? {
         StepOutcome::Next(next) => {
-            search.enter(lengths, branch)?;
-            if explore(alloc, steps, lengths, goal, search, seen, &next)? {
+            search.advance_in_branch(lengths, branch)?;
+            if explore_unless_remembered(alloc, steps, lengths, goal, search, seen, &next)? {
                 return Ok(true);
             }
-            search.leave(branch);
+            search.go_back_in_branch(branch);
             Ok(false)
         }
         StepOutcome::Stop(why) => {
-            search.note_next(alloc, lengths, branch, why)?;
-            Ok(goal.is_stopped())
+            search.note_stop_by_next_command(alloc, lengths, branch, why)?;
+            Ok(goal.wants_stopped_interleaving())
         }
     }
 }
 
 /// Searches all interleavings from the state `start` for the first that the search is for. Returns whether there is one,
 /// and the search.
-fn search_all<S: Steps>(
+fn search_interleavings_for_goal<S: Steps>(
     alloc: Global,
     steps: &S,
     lengths: &[usize],
@@ -124,8 +124,16 @@ fn search_all<S: Steps>(
         (λ r. IsBounded (S.outcome steps.now) lengths.now (S.most_rest steps.now) start.now r.1.steps) }
 {
     let mut search = SearchProgress::new(alloc, lengths)?;
-    let mut seen = IndexSet::with_hasher(alloc, BuildWordHasher::new());
-    let found = explore(alloc, steps, lengths, goal, &mut search, &mut seen, start)?;
+    let mut seen = IndexSet::with_hasher(alloc, BuildPositionHasher::new());
+    let found = explore_unless_remembered(
+        alloc,
+        steps,
+        lengths,
+        goal,
+        &mut search,
+        &mut seen,
+        start,
+    )?;
     // The length is not used: `len` says that the set has no repeats.
     let _ = seen.len();
     Ok((found, search))
@@ -151,7 +159,7 @@ pub fn some<S: Steps>(
     ensures bound { IfOk result
         (λ r. IsBounded (S.outcome steps.now) lengths.now (S.most_rest steps.now) start.now r.1) }
 {
-    let (found, search) = search_all(alloc, steps, lengths, Goal::ToEnd, start)?;
+    let (found, search) = search_interleavings_for_goal(alloc, steps, lengths, Goal::ToEnd, start)?;
     let steps_made = search.steps;
     Ok((search.into_answer(found), steps_made))
 }
@@ -176,7 +184,7 @@ pub fn every<S: Steps>(
     ensures bound { IfOk result
         (λ r. IsBounded (S.outcome steps.now) lengths.now (S.most_rest steps.now) start.now r.1) }
 {
-    let (_, search) = search_all(alloc, steps, lengths, Goal::Stopped, start)?;
+    let (_, search) = search_interleavings_for_goal(alloc, steps, lengths, Goal::Stopped, start)?;
     let steps_made = search.steps;
     Ok((search.into_every_answer(), steps_made))
 }

@@ -21,7 +21,7 @@ pub(crate) enum Goal {
 impl Goal {
     /// Whether an interleaving that stops is of this kind. If not, one that is true to its end is.
     #[inline(always)]
-    pub(crate) fn is_stopped(self) -> bool
+    pub(crate) fn wants_stopped_interleaving(self) -> bool
         ensures { result ≡ spec.is_stopped self }
     {
         match self {
@@ -87,7 +87,11 @@ impl<F: Drop> SearchProgress<F> {
 
     /// Advances by one command of `branch`. Each clause is a fact on one of the things that the search keeps.
     #[inline(always)]
-    pub(crate) fn enter(&mut self, lengths: &[usize], branch: usize) -> Result<(), AllocError>
+    pub(crate) fn advance_in_branch(
+        &mut self,
+        lengths: &[usize],
+        branch: usize,
+    ) -> Result<(), AllocError>
         requires place { IsAt lengths.now self.old.done.items }
         requires left { slice_index self.old.done.items branch < slice_index lengths.now branch }
         ensures place { OnOk result (IsAt lengths.now self.new.done.items) }
@@ -110,7 +114,7 @@ impl<F: Drop> SearchProgress<F> {
 
     /// Goes back by one command of `branch`.
     #[inline(always)]
-    pub(crate) fn leave(&mut self, branch: usize)
+    pub(crate) fn go_back_in_branch(&mut self, branch: usize)
         requires branch { branch < length self.old.done.items }
         requires done { 0 < slice_index self.old.done.items branch }
         ensures done { self.new.done.items
@@ -125,7 +129,7 @@ impl<F: Drop> SearchProgress<F> {
 
     /// Notes that the first interleaving that begins with the word stops after `at` true events. A fault is kept if it is
     /// the first, and a false event if it is further than each so far.
-    pub(crate) fn note(
+    pub(crate) fn note_stop_if_first_or_furthest(
         &mut self,
         alloc: Global,
         lengths: &[usize],
@@ -143,13 +147,13 @@ impl<F: Drop> SearchProgress<F> {
         match why {
             StopReason::False => {
                 if is_further(at, &self.best.furthest) {
-                    let word = self.first_interleaving(alloc, lengths)?;
+                    let word = self.first_interleaving_from_current_position(alloc, lengths)?;
                     self.best.furthest = Some(FalseInterleaving { word, at });
                 }
             }
             StopReason::Fault(fault) => {
                 if self.best.fault.is_none() {
-                    let word = self.first_interleaving(alloc, lengths)?;
+                    let word = self.first_interleaving_from_current_position(alloc, lengths)?;
                     self.best.fault = Some(FaultedInterleaving { word, at, fault });
                 }
             }
@@ -158,7 +162,7 @@ impl<F: Drop> SearchProgress<F> {
     }
 
     /// Notes that the next command of `branch` stops the run after the word.
-    pub(crate) fn note_next(
+    pub(crate) fn note_stop_by_next_command(
         &mut self,
         alloc: Global,
         lengths: &[usize],
@@ -179,9 +183,9 @@ impl<F: Drop> SearchProgress<F> {
         if !kept {
             return Ok(());
         }
-        self.enter(lengths, branch)?;
-        self.note(alloc, lengths, at, why)?;
-        self.leave(branch);
+        self.advance_in_branch(lengths, branch)?;
+        self.note_stop_if_first_or_furthest(alloc, lengths, at, why)?;
+        self.go_back_in_branch(branch);
         Ok(())
     }
 
@@ -196,12 +200,16 @@ impl<F: Drop> SearchProgress<F> {
     }
 
     /// The first interleaving that begins with the word.
-    fn first_interleaving(&self, alloc: Global, lengths: &[usize]) -> Result<Vec<usize>, AllocError>
+    fn first_interleaving_from_current_position(
+        &self,
+        alloc: Global,
+        lengths: &[usize],
+    ) -> Result<Vec<usize>, AllocError>
         requires { length self.now.done.items ≡ length lengths.now }
         ensures { IfOk result
             (λ v. v.items ≡ self.now.word.items ++ fill_from 0 lengths.now self.now.done.items) }
     {
-        append_remaining_letters(lengths, &self.done, self.word.to_vec(alloc)?)
+        complete_interleaving_branch_by_branch(lengths, &self.done, self.word.to_vec(alloc)?)
     }
 
     /// The answer of the finished search. If `found`, the word is an interleaving that is true to its end.
@@ -273,7 +281,7 @@ fn is_further(at: usize, furthest: &Option<FalseInterleaving>) -> bool
 }
 
 /// Whether no command is left.
-pub(crate) fn is_done(lengths: &[usize], done: &[usize]) -> bool
+pub(crate) fn are_all_branches_done(lengths: &[usize], done: &[usize]) -> bool
     requires { length done.now ≡ length lengths.now }
     ensures { MatchBool result ((b : ℕ) → slice_index lengths.now b ≤ slice_index done.now b)
         ((b : ℕ) × (slice_index done.now b < slice_index lengths.now b)) }
@@ -287,7 +295,7 @@ pub(crate) fn is_done(lengths: &[usize], done: &[usize]) -> bool
 }
 
 /// The word, followed by the commands that are left, branch by branch.
-fn append_remaining_letters(
+fn complete_interleaving_branch_by_branch(
     lengths: &[usize],
     done: &[usize],
     word: Vec<usize>,

@@ -1,7 +1,7 @@
 //! Writers that fail in the middle of a text.
 
 use crate::commands::{
-    COMMANDS, ProgramCommand, run_command_with_failing_writer, status_and_output_text,
+    COMMANDS, ProgramCommand, run_command_with_limited_writer, status_and_shortened_output_text,
 };
 use pst_cli::Status;
 use pst_tests::support::{COUNTER, ONE};
@@ -17,7 +17,7 @@ const ITEMS: &str = "
 
 /// Returns how many proper prefixes of `whole` the command misses. For each prefix, it runs the command on a writer
 /// that fails after it, and expects the status 3 and just this prefix as output.
-fn count_missed_output_prefixes<R: Threads + Wait + Sync>(
+fn count_prefixes_missed_when_writer_fails<R: Threads + Wait + Sync>(
     rt: &R,
     alloc: Global,
     command: ProgramCommand,
@@ -26,7 +26,7 @@ fn count_missed_output_prefixes<R: Threads + Wait + Sync>(
 ) -> Result<usize, AllocError> {
     let mut misses: usize = 0;
     for room in 0..whole.len() {
-        let cut = run_command_with_failing_writer(rt, alloc, command, input, room)?;
+        let cut = run_command_with_limited_writer(rt, alloc, command, input, room)?;
         let is_lost = cut.status == Status::Lost && cut.failed;
         if !is_lost || cut.bytes.as_slice() != &whole[..room] {
             misses = misses.saturating_add(1);
@@ -36,15 +36,21 @@ fn count_missed_output_prefixes<R: Threads + Wait + Sync>(
 }
 
 /// Prints the command's output, or its status code alone for `list` and `explain`, and the result of
-/// `count_missed_output_prefixes`.
-fn print_command_with_missed_prefixes<R: Threads + Wait + Sync + Print + AllocGlobal>(
+/// `count_prefixes_missed_when_writer_fails`.
+fn print_missed_prefixes_and_output_or_status<R: Threads + Wait + Sync + Print + AllocGlobal>(
     rt: &R,
     command: ProgramCommand,
     input: &[u8],
 ) -> io::Result<()> {
     let alloc = rt.alloc();
-    let whole = run_command_with_failing_writer(rt, alloc, command, input, usize::MAX)?;
-    let missed = count_missed_output_prefixes(rt, alloc, command, input, whole.bytes.as_slice())?;
+    let whole = run_command_with_limited_writer(rt, alloc, command, input, usize::MAX)?;
+    let missed = count_prefixes_missed_when_writer_fails(
+        rt,
+        alloc,
+        command,
+        input,
+        whole.bytes.as_slice(),
+    )?;
     let name = command.name();
     match command {
         ProgramCommand::List | ProgramCommand::Explain => {
@@ -52,22 +58,24 @@ fn print_command_with_missed_prefixes<R: Threads + Wait + Sync + Print + AllocGl
             println!(rt; "{name}: {missed} beginnings missed of status {code}")
         }
         _ => {
-            let text = status_and_output_text(alloc, &whole)?;
+            let text = status_and_shortened_output_text(alloc, &whole)?;
             println!(rt; "{name}: {missed} beginnings missed of {text}")
         }
     }
 }
 
-/// Calls `print_command_with_missed_prefixes` for each command. The campaign tests a counter without a read; the other
+/// Calls `print_missed_prefixes_and_output_or_status` for each command. The campaign tests a counter without a read; the other
 /// commands get a counter with two items.
-pub fn print_beginnings<R: Threads + Wait + Sync + Print + AllocGlobal>(rt: &R) -> io::Result<()> {
+pub fn print_failing_writer_results_of_commands<R: Threads + Wait + Sync + Print + AllocGlobal>(
+    rt: &R,
+) -> io::Result<()> {
     let items = format!(in rt.alloc(); "{COUNTER}{ITEMS}")?;
     for command in COMMANDS {
         let input = match command {
             ProgramCommand::Campaign => ONE,
             _ => items.as_str(),
         };
-        print_command_with_missed_prefixes(rt, command, input.as_bytes())?;
+        print_missed_prefixes_and_output_or_status(rt, command, input.as_bytes())?;
     }
     Ok(())
 }

@@ -1,10 +1,10 @@
 //! The commands of the program, and the output of each for an input.
 ghost use Rattle.std.specs.Prelude.{◌≡◌, false};
 
-use crate::memory::trials::settings_of;
+use crate::memory::trials::settings_for_trials_of_one_command;
 use pst_campaign::Unwatched;
 use pst_cli::{
-    Chosen, ExplainOptions, ExplanationForm, Status, campaign_text, check_text, explain_text,
+    ChosenItems, ExplainOptions, ExplanationForm, Status, campaign_text, check_text, explain_text,
     judge_text, list_text, run_text,
 };
 use pst_samples::Stuck;
@@ -69,7 +69,7 @@ fn run_campaign_on_stuck_system<R: Threads + Wait + Sync>(
 ) -> Result<Status, AllocError>
     requires { short.old.failed ≡ false }
 {
-    let settings = settings_of(3);
+    let settings = settings_for_trials_of_one_command(3);
     if !settings.are_in_range() {
         return Err(AllocError);
     }
@@ -92,7 +92,7 @@ fn run_items_on_stuck_system<R: Threads + Wait>(
 }
 
 /// Runs the command on `input`, with a writer that fails after `room` bytes.
-pub fn run_command_with_failing_writer<R: Threads + Wait + Sync>(
+pub fn run_command_with_limited_writer<R: Threads + Wait + Sync>(
     rt: &R,
     alloc: Global,
     command: ProgramCommand,
@@ -107,7 +107,7 @@ pub fn run_command_with_failing_writer<R: Threads + Wait + Sync>(
         ProgramCommand::Explain => {
             let asked = ExplainOptions {
                 files: &[],
-                chosen: Chosen::All,
+                chosen: ChosenItems::All,
                 most: usize::MAX,
                 form: ExplanationForm::Text(80),
             };
@@ -129,7 +129,7 @@ pub fn run_command_with_failing_writer<R: Threads + Wait + Sync>(
 }
 
 /// Returns `line`, or a note of its length if it has over 200 bytes.
-fn shortened(alloc: Global, line: &str) -> Result<String, AllocError> {
+fn line_or_length_note_if_long(alloc: Global, line: &str) -> Result<String, AllocError> {
     let length = line.len();
     if length > 200 {
         return format!(in alloc; "a line of {length} bytes");
@@ -138,23 +138,30 @@ fn shortened(alloc: Global, line: &str) -> Result<String, AllocError> {
 }
 
 /// Adds the lines of an output, with `, ` between them, or that it is empty.
-fn push_lines(alloc: Global, text: &mut String, output: &str) -> Result<(), AllocError> {
+fn push_shortened_lines_or_word_nothing(
+    alloc: Global,
+    text: &mut String,
+    output: &str,
+) -> Result<(), AllocError> {
     if output.is_empty() {
         return text.push_str(" nothing");
     }
     for (index, line) in output.lines().enumerate() {
         text.push_str(if index == 0 { " " } else { ", " })?;
-        text.push_str(shortened(alloc, line)?.as_str())?;
+        text.push_str(line_or_length_note_if_long(alloc, line)?.as_str())?;
     }
     Ok(())
 }
 
 /// Returns the status code and the output, with `, ` between its lines.
-pub fn status_and_output_text(alloc: Global, answer: &CommandOutput) -> Result<String, AllocError> {
+pub fn status_and_shortened_output_text(
+    alloc: Global,
+    answer: &CommandOutput,
+) -> Result<String, AllocError> {
     let code = answer.status.code();
     let mut text = format!(in alloc; "{code}")?;
     match std::str::from_utf8(answer.bytes.as_slice()) {
-        Ok(output) => push_lines(alloc, &mut text, output)?,
+        Ok(output) => push_shortened_lines_or_word_nothing(alloc, &mut text, output)?,
         Err(_) => text.push_str(" no text")?,
     }
     Ok(text)

@@ -5,7 +5,7 @@ use std::alloc::{AllocError, Global};
 
 /// A model or a file of items at a limit.
 #[derive(Clone, Copy, Drop)]
-pub enum Deep {
+pub enum InputLimit {
     /// 64 functions of depth 64, each of which applies the one before.
     Functions,
     /// 64 functions of depth 64 in a postcondition that is false.
@@ -41,23 +41,23 @@ pub enum Deep {
 }
 
 /// All limits with their names.
-pub const LIMITS: [(&str, Deep); 16] = [
-    ("functions", Deep::Functions),
-    ("false functions", Deep::FalseFunctions),
-    ("faulting functions", Deep::FaultingFunctions),
-    ("expressions", Deep::Expressions),
-    ("types", Deep::Types),
-    ("reply", Deep::Reply),
-    ("deeper reply", Deep::TooDeepReply),
-    ("argument", Deep::Argument),
-    ("20000 trees", Deep::Trees),
-    ("20001 trees", Deep::TooManyTrees),
-    ("list", Deep::List),
-    ("text", Deep::Text),
-    ("map", Deep::Map),
-    ("commands", Deep::Commands),
-    ("one command more", Deep::TooManyCommands),
-    ("calls", Deep::Calls),
+pub const LIMITS: [(&str, InputLimit); 16] = [
+    ("functions", InputLimit::Functions),
+    ("false functions", InputLimit::FalseFunctions),
+    ("faulting functions", InputLimit::FaultingFunctions),
+    ("expressions", InputLimit::Expressions),
+    ("types", InputLimit::Types),
+    ("reply", InputLimit::Reply),
+    ("deeper reply", InputLimit::TooDeepReply),
+    ("argument", InputLimit::Argument),
+    ("20000 trees", InputLimit::Trees),
+    ("20001 trees", InputLimit::TooManyTrees),
+    ("list", InputLimit::List),
+    ("text", InputLimit::Text),
+    ("map", InputLimit::Map),
+    ("commands", InputLimit::Commands),
+    ("one command more", InputLimit::TooManyCommands),
+    ("calls", InputLimit::Calls),
 ];
 
 /// A case and a run of calls of `get` that answer 0.
@@ -65,7 +65,7 @@ const GETS: &str = "(case (prefix (get)) (left (get)) (right (get)))
 (run (prefix (get)) (left (get)) (right (get)) (replies (0) (0) (0)))";
 
 /// `count` times `beginning`, then `inner`, then `count` times `end`.
-pub fn wrapped(
+pub fn text_wrapped_count_times(
     alloc: Global,
     beginning: &str,
     inner: &str,
@@ -80,21 +80,21 @@ pub fn wrapped(
 }
 
 /// 64 functions of depth 64, the first of which has the body.
-fn functions_from(alloc: Global, body: &str) -> Result<String, AllocError> {
+fn deep_function_chain_with_first_body(alloc: Global, body: &str) -> Result<String, AllocError> {
     let mut functions = format!(in alloc; "(fun f1 () bool {body})\n")?;
     for number in 2..65u32 {
         let before = number - 1;
         let inner = format!(in alloc; "(f{before})")?;
-        let body = wrapped(alloc, "(not ", inner.as_str(), ")", 63)?;
+        let body = text_wrapped_count_times(alloc, "(not ", inner.as_str(), ")", 63)?;
         let function = format!(in alloc; "(fun f{number} () bool {body})\n")?;
         functions.push_str(function.as_str())?;
     }
     Ok(functions)
 }
 
-fn functions(alloc: Global) -> Result<String, AllocError> {
-    let body = wrapped(alloc, "(not ", "true", ")", 63)?;
-    let functions = functions_from(alloc, body.as_str())?;
+fn input_with_deep_functions(alloc: Global) -> Result<String, AllocError> {
+    let body = text_wrapped_count_times(alloc, "(not ", "true", ")", 63)?;
+    let functions = deep_function_chain_with_first_body(alloc, body.as_str())?;
     format!(in alloc;
         "(model deep (state int) (init (if (f64) 0 1)) (command (list call (call get)))
       {functions}(op get () int (pre (f64)) (next (if (f64) s 1)) (post (and (f64) (= r 0)))))
@@ -104,13 +104,13 @@ fn functions(alloc: Global) -> Result<String, AllocError> {
 
 /// A run whose last answer is wrong. Its postcondition applies the functions; the body of the first nests `inner` in
 /// `levels` levels.
-fn input_with_failing_postcondition(
+fn input_with_false_or_faulting_postcondition(
     alloc: Global,
     inner: &str,
     levels: usize,
 ) -> Result<String, AllocError> {
-    let body = wrapped(alloc, "(not ", inner, ")", levels)?;
-    let functions = functions_from(alloc, body.as_str())?;
+    let body = text_wrapped_count_times(alloc, "(not ", inner, ")", levels)?;
+    let functions = deep_function_chain_with_first_body(alloc, body.as_str())?;
     format!(in alloc;
         "(model deep (state int) (init 1) (command (list call (call get)))
       {functions}(op get () int (pre true) (next s) (post (and (f64) (= r s)))))
@@ -118,21 +118,21 @@ fn input_with_failing_postcondition(
     )
 }
 
-fn expressions(alloc: Global) -> Result<String, AllocError> {
-    let init = wrapped(alloc, "(fold x (list int 7) a 0 ", "0", ")", 62)?;
-    let next = wrapped(alloc, "(+ 0 ", "s", ")", 63)?;
-    let lists = wrapped(alloc, "(for ((in x (range 0 1))) ", "0", ")", 61)?;
-    let post = wrapped(alloc, "(not ", "(= r 0)", ")", 62)?;
+fn input_with_deep_expressions(alloc: Global) -> Result<String, AllocError> {
+    let init = text_wrapped_count_times(alloc, "(fold x (list int 7) a 0 ", "0", ")", 62)?;
+    let next = text_wrapped_count_times(alloc, "(+ 0 ", "s", ")", 63)?;
+    let lists = text_wrapped_count_times(alloc, "(for ((in x (range 0 1))) ", "0", ")", 61)?;
+    let post = text_wrapped_count_times(alloc, "(not ", "(= r 0)", ")", 62)?;
     format!(in alloc;
         "(model deep (state int) (init {init}) (command (list call (call get)))
       (op get () int (pre (= {lists} {lists})) (next {next}) (post {post}))) {GETS}"
     )
 }
 
-fn types(alloc: Global) -> Result<String, AllocError> {
-    let ty = wrapped(alloc, "(list ", "int", ")", 15)?;
-    let inner = wrapped(alloc, "(list ", "int", ")", 14)?;
-    let value = wrapped(alloc, "(list ", "7", ")", 15)?;
+fn input_with_deep_types(alloc: Global) -> Result<String, AllocError> {
+    let ty = text_wrapped_count_times(alloc, "(list ", "int", ")", 15)?;
+    let inner = text_wrapped_count_times(alloc, "(list ", "int", ")", 14)?;
+    let value = text_wrapped_count_times(alloc, "(list ", "7", ")", 15)?;
     format!(in alloc;
         "(model deep (state {ty}) (init (list {inner})) (command (list call (call keep s)))
       (op keep ((x {ty})) int (pre true) (next x) (post (= r 0)))
@@ -142,18 +142,18 @@ fn types(alloc: Global) -> Result<String, AllocError> {
     )
 }
 
-fn reply(alloc: Global, levels: usize) -> Result<String, AllocError> {
-    let value = wrapped(alloc, "(list ", "7", ")", levels)?;
+fn input_with_deep_reply(alloc: Global, levels: usize) -> Result<String, AllocError> {
+    let value = text_wrapped_count_times(alloc, "(list ", "7", ")", levels)?;
     format!(in alloc; "{COUNTER}(run (prefix (inc)) (left) (right) (replies ({value}) () ()))")
 }
 
-fn argument(alloc: Global) -> Result<String, AllocError> {
-    let value = wrapped(alloc, "(list ", "7", ")", 97)?;
+fn input_with_deep_argument(alloc: Global) -> Result<String, AllocError> {
+    let value = text_wrapped_count_times(alloc, "(list ", "7", ")", 97)?;
     format!(in alloc; "{COUNTER}(case (prefix (inc {value})) (left) (right))")
 }
 
 /// A model of 45 trees, not counting those of its calls: 3 of each call of `get`, and 4 of each of `put`.
-fn trees(alloc: Global, gets: usize, puts: usize) -> Result<String, AllocError> {
+fn input_with_many_trees(alloc: Global, gets: usize, puts: usize) -> Result<String, AllocError> {
     let gets = "(call get)".repeat(alloc, gets)?;
     let puts = "(call put 1)".repeat(alloc, puts)?;
     format!(in alloc;
@@ -174,7 +174,7 @@ fn input_with_large_state(alloc: Global, parts: [&str; 6]) -> Result<String, All
     )
 }
 
-fn commands(alloc: Global, count: usize) -> Result<String, AllocError> {
+fn input_with_many_commands(alloc: Global, count: usize) -> Result<String, AllocError> {
     let prefix = "(get)".repeat(alloc, count)?;
     let eight = "(get)".repeat(alloc, 8)?;
     format!(in alloc;
@@ -222,23 +222,27 @@ const CALLS: &str = "(model wide (state int) (init 0)
 (case (prefix) (left (inc)) (right))";
 
 /// The text of a model and its items.
-pub fn text_of_input_at_limit(alloc: Global, deep: Deep) -> Result<String, AllocError> {
+pub fn text_of_input_at_limit(alloc: Global, deep: InputLimit) -> Result<String, AllocError> {
     match deep {
-        Deep::Functions => functions(alloc),
-        Deep::FalseFunctions => input_with_failing_postcondition(alloc, "true", 63),
-        Deep::FaultingFunctions => input_with_failing_postcondition(alloc, "(= 0 (div 1 0))", 61),
-        Deep::Expressions => expressions(alloc),
-        Deep::Types => types(alloc),
-        Deep::Reply => reply(alloc, 97),
-        Deep::TooDeepReply => reply(alloc, 98),
-        Deep::Argument => argument(alloc),
-        Deep::Trees => trees(alloc, 6_649, 2),
-        Deep::TooManyTrees => trees(alloc, 6_648, 3),
-        Deep::List => input_with_large_state(alloc, LIST),
-        Deep::Text => input_with_large_state(alloc, TEXT),
-        Deep::Map => input_with_large_state(alloc, MAP),
-        Deep::Commands => commands(alloc, 64),
-        Deep::TooManyCommands => commands(alloc, 65),
-        Deep::Calls => String::from_str(alloc, CALLS),
+        InputLimit::Functions => input_with_deep_functions(alloc),
+        InputLimit::FalseFunctions => input_with_false_or_faulting_postcondition(alloc, "true", 63),
+        InputLimit::FaultingFunctions => input_with_false_or_faulting_postcondition(
+            alloc,
+            "(= 0 (div 1 0))",
+            61,
+        ),
+        InputLimit::Expressions => input_with_deep_expressions(alloc),
+        InputLimit::Types => input_with_deep_types(alloc),
+        InputLimit::Reply => input_with_deep_reply(alloc, 97),
+        InputLimit::TooDeepReply => input_with_deep_reply(alloc, 98),
+        InputLimit::Argument => input_with_deep_argument(alloc),
+        InputLimit::Trees => input_with_many_trees(alloc, 6_649, 2),
+        InputLimit::TooManyTrees => input_with_many_trees(alloc, 6_648, 3),
+        InputLimit::List => input_with_large_state(alloc, LIST),
+        InputLimit::Text => input_with_large_state(alloc, TEXT),
+        InputLimit::Map => input_with_large_state(alloc, MAP),
+        InputLimit::Commands => input_with_many_commands(alloc, 64),
+        InputLimit::TooManyCommands => input_with_many_commands(alloc, 65),
+        InputLimit::Calls => String::from_str(alloc, CALLS),
     }
 }

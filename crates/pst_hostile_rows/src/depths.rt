@@ -2,9 +2,9 @@
 //! thread: those that judge many items, those that drive branches, and the workers that run trials.
 
 use crate::commands::{
-    COMMANDS, ProgramCommand, run_command_with_failing_writer, status_and_output_text,
+    COMMANDS, ProgramCommand, run_command_with_limited_writer, status_and_shortened_output_text,
 };
-use crate::deep::{Deep, LIMITS, text_of_input_at_limit};
+use crate::deep::{InputLimit, LIMITS, text_of_input_at_limit};
 use pst_messages::input_warnings_text;
 use pst_sexpr::{Out, read, write};
 use pst_sources::SourceFile;
@@ -21,7 +21,7 @@ fn read_model_of_text(alloc: Global, text: &[u8]) -> Option<Model> {
 }
 
 /// Returns the printed form of `model`.
-fn printed(alloc: Global, model: &Model) -> Option<Vec<u8>> {
+fn print_model_as_bytes(alloc: Global, model: &Model) -> Option<Vec<u8>> {
     let tree = print_model(alloc, model).ok()?;
     let mut sink = Out::new(Vec::new(alloc));
     match write(&tree, &mut sink) {
@@ -32,23 +32,23 @@ fn printed(alloc: Global, model: &Model) -> Option<Vec<u8>> {
 
 /// Returns whether the model at the beginning of `text`, printed and read again, is the same model. `None` if the text
 /// or its printed form has no model.
-fn is_printed(alloc: Global, text: &[u8]) -> Option<bool> {
+fn is_model_same_after_printing(alloc: Global, text: &[u8]) -> Option<bool> {
     let model = read_model_of_text(alloc, text)?;
-    let again = read_model_of_text(alloc, printed(alloc, &model)?.as_slice())?;
+    let again = read_model_of_text(alloc, print_model_as_bytes(alloc, &model)?.as_slice())?;
     Some(*again.source() == *model.source())
 }
 
 /// Runs the command and prints its output, or its status code alone for the commands with long output.
-fn print_command_output<R: Threads + Wait + Sync + Print + AllocGlobal>(
+fn run_and_print_output_or_status<R: Threads + Wait + Sync + Print + AllocGlobal>(
     rt: &R,
     command: ProgramCommand,
     text: &[u8],
 ) -> io::Result<()> {
-    let answered = run_command_with_failing_writer(rt, rt.alloc(), command, text, usize::MAX)?;
+    let answered = run_command_with_limited_writer(rt, rt.alloc(), command, text, usize::MAX)?;
     let name = command.name();
     match command {
         ProgramCommand::Check | ProgramCommand::Judge | ProgramCommand::Run => {
-            let text = status_and_output_text(rt.alloc(), &answered)?;
+            let text = status_and_shortened_output_text(rt.alloc(), &answered)?;
             println!(rt; "  {name}: {text}")
         }
         _ => {
@@ -59,7 +59,7 @@ fn print_command_output<R: Threads + Wait + Sync + Print + AllocGlobal>(
 }
 
 /// Prints the first line of the warnings on a model.
-fn print_warnings<R: Print + AllocGlobal>(rt: &R, text: &str) -> io::Result<()> {
+fn print_first_line_of_warnings<R: Print + AllocGlobal>(rt: &R, text: &str) -> io::Result<()> {
     let file = SourceFile {
         name: "-",
         bytes: Vec::from_slice(rt.alloc(), text.as_bytes())?,
@@ -73,9 +73,9 @@ fn print_warnings<R: Print + AllocGlobal>(rt: &R, text: &str) -> io::Result<()> 
 }
 
 /// Returns the commands to run: only the first three if the initial state or the precondition takes long to compute.
-fn commands_to_run(deep: Deep) -> &'static [ProgramCommand] {
+fn commands_to_run_at_limit(deep: InputLimit) -> &'static [ProgramCommand] {
     match deep {
-        Deep::List | Deep::Map | Deep::Calls => &[
+        InputLimit::List | InputLimit::Map | InputLimit::Calls => &[
             ProgramCommand::Check,
             ProgramCommand::List,
             ProgramCommand::Judge,
@@ -85,8 +85,12 @@ fn commands_to_run(deep: Deep) -> &'static [ProgramCommand] {
 }
 
 /// Prints whether the model at the beginning of `text` is read as it is printed.
-fn print_printed<R: Print + AllocGlobal>(rt: &R, name: &str, text: &[u8]) -> io::Result<()> {
-    let printed = match is_printed(rt.alloc(), text) {
+fn print_whether_model_survives_printing<R: Print + AllocGlobal>(
+    rt: &R,
+    name: &str,
+    text: &[u8],
+) -> io::Result<()> {
+    let printed = match is_model_same_after_printing(rt.alloc(), text) {
         Some(true) => "is read as it is printed",
         Some(false) => "is read otherwise",
         None => "has no model",
@@ -95,14 +99,16 @@ fn print_printed<R: Print + AllocGlobal>(rt: &R, name: &str, text: &[u8]) -> io:
 }
 
 /// Prints each command's answer at each limit, and the warnings.
-pub fn print_depths<R: Threads + Wait + Sync + Print + AllocGlobal>(rt: &R) -> io::Result<()> {
+pub fn print_program_results_at_each_limit<R: Threads + Wait + Sync + Print + AllocGlobal>(
+    rt: &R,
+) -> io::Result<()> {
     for (name, deep) in &LIMITS {
         let text = text_of_input_at_limit(rt.alloc(), *deep)?;
-        print_printed(rt, *name, text.as_bytes())?;
-        for command in commands_to_run(*deep) {
-            print_command_output(rt, *command, text.as_bytes())?;
+        print_whether_model_survives_printing(rt, *name, text.as_bytes())?;
+        for command in commands_to_run_at_limit(*deep) {
+            run_and_print_output_or_status(rt, *command, text.as_bytes())?;
         }
-        print_warnings(rt, text.as_str())?;
+        print_first_line_of_warnings(rt, text.as_str())?;
     }
     Ok(())
 }

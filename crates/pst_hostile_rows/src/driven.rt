@@ -1,6 +1,6 @@
 //! The output for cases on systems that give wrong answers, and for campaigns on systems that cannot be reset.
 
-use crate::commands::{CommandOutput, status_and_output_text};
+use crate::commands::{CommandOutput, status_and_shortened_output_text};
 use crate::models::TYPES;
 use crate::odd::NamedOddAnswers;
 use pst_campaign::Unwatched;
@@ -8,7 +8,7 @@ use pst_cli::{Status, campaign_text, run_text};
 use pst_system::BoxedSystem;
 use pst_tests::short::LimitedSink;
 use pst_tests::support::{COUNTER, ONE};
-use pst_tests::systems::{Liar, LimitedResets, NoGet};
+use pst_tests::systems::{CounterWithoutGet, Liar, LimitedResets};
 use pst_trial::Settings;
 use std::alloc::{AllocError, Global};
 use std::io;
@@ -54,7 +54,7 @@ const CALLS: [(&str, &str); 34] = [
 ];
 
 /// Prints the status and the output, which `short` has taken.
-fn print_answer<R: Print + AllocGlobal>(
+fn print_status_and_output<R: Print + AllocGlobal>(
     rt: &R,
     name: &str,
     status: Status,
@@ -70,12 +70,12 @@ fn print_answer<R: Print + AllocGlobal>(
         bytes,
         failed,
     };
-    let text = status_and_output_text(rt.alloc(), &answer)?;
+    let text = status_and_shortened_output_text(rt.alloc(), &answer)?;
     println!(rt; "{name}: {text}")
 }
 
 /// Drives the items on `system` and prints the status and the output.
-fn print_run<R: Threads + Wait + Print + AllocGlobal>(
+fn drive_items_and_print_output<R: Threads + Wait + Print + AllocGlobal>(
     rt: &R,
     name: &str,
     model: &str,
@@ -85,43 +85,51 @@ fn print_run<R: Threads + Wait + Print + AllocGlobal>(
     let input = format!(in rt.alloc(); "{model} {items}")?;
     let mut short = LimitedSink::new(rt.alloc(), usize::MAX);
     let status = run_text(rt, rt.alloc(), input.as_bytes(), system, &mut short);
-    print_answer(rt, name, status, short)
+    print_status_and_output(rt, name, status, short)
 }
 
 /// A case whose prefix calls `operation` with the name of an answer.
-fn case_of(alloc: Global, operation: &str, name: &str) -> Result<String, AllocError> {
+fn case_text_asking_for_answer(
+    alloc: Global,
+    operation: &str,
+    name: &str,
+) -> Result<String, AllocError> {
     format!(in alloc; "(case (prefix ({operation} \"{name}\")) (left) (right))")
 }
 
 /// Prints the result of each odd answer in the prefix of a case, and of a case with odd answers in its branches.
-fn print_odd<R: Threads + Wait + Print + AllocGlobal>(rt: &R) -> io::Result<()> {
+fn print_drives_with_odd_answers<R: Threads + Wait + Print + AllocGlobal>(
+    rt: &R,
+) -> io::Result<()> {
     let alloc = rt.alloc();
     let mut odd: BoxedSystem = Box::new(alloc, NamedOddAnswers::new(alloc))?;
     for (operation, name) in &CALLS {
-        let items = case_of(alloc, *operation, *name)?;
-        print_run(rt, "odd", TYPES, items.as_str(), &mut odd)?;
+        let items = case_text_asking_for_answer(alloc, *operation, *name)?;
+        drive_items_and_print_output(rt, "odd", TYPES, items.as_str(), &mut odd)?;
     }
     let items = "(case (prefix) (left (lists \"100 levels\") (number \"an integer\"))
       (right (table \"falling keys\")) (suffix (number \"an integer\")))";
-    print_run(rt, "odd", TYPES, items, &mut odd)
+    drive_items_and_print_output(rt, "odd", TYPES, items, &mut odd)
 }
 
 /// Prints the results of cases on the other systems.
-fn print_others<R: Threads + Wait + Print + AllocGlobal>(rt: &R) -> io::Result<()> {
+fn print_drives_on_misbehaving_systems<R: Threads + Wait + Print + AllocGlobal>(
+    rt: &R,
+) -> io::Result<()> {
     let alloc = rt.alloc();
     let mut liar: BoxedSystem = Box::new(alloc, Liar)?;
     let items = "(case (prefix (inc) (get)) (left (get)) (right))";
-    print_run(rt, "liar", COUNTER, items, &mut liar)?;
-    let mut no_get: BoxedSystem = Box::new(alloc, NoGet::new())?;
+    drive_items_and_print_output(rt, "liar", COUNTER, items, &mut liar)?;
+    let mut no_get: BoxedSystem = Box::new(alloc, CounterWithoutGet::new())?;
     let items = "(case (prefix (inc)) (left (get) (inc)) (right (inc)))";
-    print_run(rt, "no get", COUNTER, items, &mut no_get)?;
+    drive_items_and_print_output(rt, "no get", COUNTER, items, &mut no_get)?;
     let mut one_reset: BoxedSystem = Box::new(alloc, LimitedResets::new(1))?;
     let items = "(case (prefix) (left) (right)) (case (prefix) (left) (right))";
-    print_run(rt, "one reset", COUNTER, items, &mut one_reset)
+    drive_items_and_print_output(rt, "one reset", COUNTER, items, &mut one_reset)
 }
 
 /// Prints the report of a campaign on a system that can be reset `resets` times.
-fn print_campaign<R: Threads + Wait + Sync + Print + AllocGlobal>(
+fn print_campaign_with_limited_resets<R: Threads + Wait + Sync + Print + AllocGlobal>(
     rt: &R,
     settings: Settings,
     resets: u32,
@@ -145,12 +153,14 @@ fn print_campaign<R: Threads + Wait + Sync + Print + AllocGlobal>(
 /// Prints the report of a campaign of three trials on a system that cannot be reset, and those of campaigns of one
 /// trial on systems that can be reset one to four times. The trial resets the system once for its case, and three times
 /// to shrink it.
-fn print_campaigns<R: Threads + Wait + Sync + Print + AllocGlobal>(rt: &R) -> io::Result<()> {
+fn print_campaigns_with_few_resets<R: Threads + Wait + Sync + Print + AllocGlobal>(
+    rt: &R,
+) -> io::Result<()> {
     let three = Settings {
         trials: 3,
         ..Settings::default()
     };
-    print_campaign(rt, three, 0)?;
+    print_campaign_with_limited_resets(rt, three, 0)?;
     let one = Settings {
         trials: 1,
         commands: 1,
@@ -158,14 +168,16 @@ fn print_campaigns<R: Threads + Wait + Sync + Print + AllocGlobal>(rt: &R) -> io
         ..Settings::default()
     };
     for resets in 1..5 {
-        print_campaign(rt, one, resets)?;
+        print_campaign_with_limited_resets(rt, one, resets)?;
     }
     Ok(())
 }
 
 /// Prints the results of all cases and campaigns of this file.
-pub fn print_driven<R: Threads + Wait + Sync + Print + AllocGlobal>(rt: &R) -> io::Result<()> {
-    print_odd(rt)?;
-    print_others(rt)?;
-    print_campaigns(rt)
+pub fn print_results_on_misbehaving_systems<R: Threads + Wait + Sync + Print + AllocGlobal>(
+    rt: &R,
+) -> io::Result<()> {
+    print_drives_with_odd_answers(rt)?;
+    print_drives_on_misbehaving_systems(rt)?;
+    print_campaigns_with_few_resets(rt)
 }

@@ -1,8 +1,8 @@
 //! Malformed and extreme inputs.
 
 use crate::commands::{
-    COMMANDS, CommandOutput, ProgramCommand, run_command_with_failing_writer,
-    status_and_output_text,
+    COMMANDS, CommandOutput, ProgramCommand, run_command_with_limited_writer,
+    status_and_shortened_output_text,
 };
 use pst_cli::Status;
 use pst_tests::support::COUNTER;
@@ -40,25 +40,25 @@ const INPUTS: [(&str, &[u8]); 18] = [
 ];
 
 /// Prints and returns the answer of `judge`.
-fn print_judged<R: Threads + Wait + Sync + Print + AllocGlobal>(
+fn print_and_return_judge_output<R: Threads + Wait + Sync + Print + AllocGlobal>(
     rt: &R,
     name: &str,
     input: &[u8],
 ) -> io::Result<CommandOutput> {
-    let judged = run_command_with_failing_writer(
+    let judged = run_command_with_limited_writer(
         rt,
         rt.alloc(),
         ProgramCommand::Judge,
         input,
         usize::MAX,
     )?;
-    let text = status_and_output_text(rt.alloc(), &judged)?;
+    let text = status_and_shortened_output_text(rt.alloc(), &judged)?;
     println!(rt; "{name}: {text}")?;
     Ok(judged)
 }
 
 /// Prints the answer of a command if it is no refusal, or another one than that of `judge`.
-fn print_other<R: Print + AllocGlobal>(
+fn print_output_unless_same_refusal<R: Print + AllocGlobal>(
     rt: &R,
     command: ProgramCommand,
     other: &CommandOutput,
@@ -66,26 +66,26 @@ fn print_other<R: Print + AllocGlobal>(
 ) -> io::Result<()> {
     if other.status != Status::Refused || other.bytes.as_slice() != judged.bytes.as_slice() {
         let word = command.name();
-        let text = status_and_output_text(rt.alloc(), other)?;
+        let text = status_and_shortened_output_text(rt.alloc(), other)?;
         println!(rt; "  {word}: {text}")?;
     }
     Ok(())
 }
 
 /// Prints the answer of `judge`. If `judge` refuses the input, it also prints each command that answers otherwise.
-fn print_input<R: Threads + Wait + Sync + Print + AllocGlobal>(
+fn print_judge_output_and_refusal_differences<R: Threads + Wait + Sync + Print + AllocGlobal>(
     rt: &R,
     name: &str,
     input: &[u8],
 ) -> io::Result<()> {
     let alloc = rt.alloc();
-    let judged = print_judged(rt, name, input)?;
+    let judged = print_and_return_judge_output(rt, name, input)?;
     if judged.status != Status::Refused {
         return Ok(());
     }
     for command in COMMANDS {
-        let other = run_command_with_failing_writer(rt, alloc, command, input, usize::MAX)?;
-        print_other(rt, command, &other, &judged)?;
+        let other = run_command_with_limited_writer(rt, alloc, command, input, usize::MAX)?;
+        print_output_unless_same_refusal(rt, command, &other, &judged)?;
     }
     Ok(())
 }
@@ -98,7 +98,7 @@ struct NamedInput {
 }
 
 /// Returns `text`, filled up with spaces to `length` bytes.
-fn padded(alloc: Global, text: &str, length: usize) -> Result<String, AllocError> {
+fn text_padded_with_spaces(alloc: Global, text: &str, length: usize) -> Result<String, AllocError> {
     let mut whole = String::from_str(alloc, text)?;
     let spaces = " ".repeat(alloc, length.saturating_sub(text.len()))?;
     whole.push_str(spaces.as_str())?;
@@ -110,9 +110,13 @@ const PARTS: [&str; 7] = [COUNTER, "(", ")", "a", "\"", ";", "\\"];
 
 /// Returns the input of `length` times the part, a byte. For the model it is the model, filled up
 /// with spaces to `length` bytes.
-fn largest(alloc: Global, part: &str, length: usize) -> Result<NamedInput, AllocError> {
+fn named_input_repeating_or_padding_part(
+    alloc: Global,
+    part: &str,
+    length: usize,
+) -> Result<NamedInput, AllocError> {
     if part == COUNTER {
-        let text = padded(alloc, part, length)?;
+        let text = text_padded_with_spaces(alloc, part, length)?;
         let name = format!(in alloc; "a model in {length} bytes")?;
         return Ok(NamedInput { name, text });
     }
@@ -122,30 +126,32 @@ fn largest(alloc: Global, part: &str, length: usize) -> Result<NamedInput, Alloc
 }
 
 /// Returns the input of `depth` brackets that are not closed.
-fn brackets(alloc: Global, depth: usize) -> Result<NamedInput, AllocError> {
+fn named_input_of_open_brackets(alloc: Global, depth: usize) -> Result<NamedInput, AllocError> {
     let text = "(".repeat(alloc, depth)?;
     let name = format!(in alloc; "{depth} brackets")?;
     Ok(NamedInput { name, text })
 }
 
 /// Prints the answers for inputs of the greatest size that a file may have, and of one byte more.
-fn print_largest<R: Threads + Wait + Sync + Print + AllocGlobal>(rt: &R) -> io::Result<()> {
+fn print_judge_outputs_at_size_limit<R: Threads + Wait + Sync + Print + AllocGlobal>(
+    rt: &R,
+) -> io::Result<()> {
     let alloc = rt.alloc();
     let most: usize = 1_048_576;
     for length in most..most + 2 {
         for part in &PARTS {
-            let input = largest(alloc, *part, length)?;
-            let _ = print_judged(rt, input.name.as_str(), input.text.as_bytes())?;
+            let input = named_input_repeating_or_padding_part(alloc, *part, length)?;
+            let _ = print_and_return_judge_output(rt, input.name.as_str(), input.text.as_bytes())?;
         }
     }
     let text = "()".repeat(alloc, most / 2)?;
-    let _ = print_judged(rt, "524288 empty nodes", text.as_bytes())?;
+    let _ = print_and_return_judge_output(rt, "524288 empty nodes", text.as_bytes())?;
     Ok(())
 }
 
 /// Prints the answers for a file with line ends of one kind, with comments and three runs. The second run has lost an
 /// update.
-fn print_lines<R: Threads + Wait + Sync + Print + AllocGlobal>(
+fn print_outputs_for_line_end<R: Threads + Wait + Sync + Print + AllocGlobal>(
     rt: &R,
     name: &str,
     line_end: &str,
@@ -162,7 +168,7 @@ fn print_lines<R: Threads + Wait + Sync + Print + AllocGlobal>(
         text.push_str(item)?;
     }
     let text = text.as_str().replace(alloc, "\n", line_end)?;
-    print_input(rt, name, text.as_bytes())
+    print_judge_output_and_refusal_differences(rt, name, text.as_bytes())
 }
 
 /// The line ends of files, with their names.
@@ -173,17 +179,19 @@ const LINE_ENDS: [(&str, &str); 3] = [
 ];
 
 /// Prints all inputs.
-pub fn print_inputs<R: Threads + Wait + Sync + Print + AllocGlobal>(rt: &R) -> io::Result<()> {
+pub fn print_outputs_for_malformed_or_extreme_inputs<
+    R: Threads + Wait + Sync + Print + AllocGlobal,
+>(rt: &R) -> io::Result<()> {
     for (name, input) in &INPUTS {
-        print_input(rt, *name, *input)?;
+        print_judge_output_and_refusal_differences(rt, *name, *input)?;
     }
     for (name, line_end) in &LINE_ENDS {
-        print_lines(rt, *name, *line_end)?;
+        print_outputs_for_line_end(rt, *name, *line_end)?;
     }
-    print_largest(rt)?;
+    print_judge_outputs_at_size_limit(rt)?;
     for depth in 100..102 {
-        let input = brackets(rt.alloc(), depth)?;
-        print_input(rt, input.name.as_str(), input.text.as_bytes())?;
+        let input = named_input_of_open_brackets(rt.alloc(), depth)?;
+        print_judge_output_and_refusal_differences(rt, input.name.as_str(), input.text.as_bytes())?;
     }
     Ok(())
 }

@@ -30,39 +30,43 @@ const CALLS: [&str; 13] = [
 ];
 
 /// Makes the call `call`, which starts no threads, and returns its result as text.
-fn answer_without_threads(alloc: Global, call: &str) -> Result<String, Refused> {
+fn result_of_call_without_threads(alloc: Global, call: &str) -> Result<String, Refused> {
     match call {
-        "read" => reading::read_answer(alloc),
-        "read_model" => reading::model_answer(alloc),
-        "check" => reading::check_answer(alloc),
-        "compile" => reading::compile_answer(alloc),
-        "read_runs" => judging::runs_answer(alloc),
-        "some" => judging::verdict_answer(alloc),
-        "every" => judging::valid_answer(alloc),
-        "generate" => judging::generate_answer(alloc),
+        "read" => reading::read_and_spell_last_counter_tree(alloc),
+        "read_model" => reading::read_and_print_counter_model(alloc),
+        "check" => reading::name_of_checked_counter_model(alloc),
+        "compile" => reading::listing_of_compiled_counter(alloc),
+        "read_runs" => judging::read_and_write_counter_runs(alloc),
+        "some" => judging::verdict_text_of_first_counter_run(alloc),
+        "every" => judging::valid_text_of_counter_case(alloc),
+        "generate" => judging::generated_counter_case_text(alloc),
         _ => Err(Refused::Otherwise("no call")),
     }
 }
 
 /// Makes the call `call` and returns its result as text.
-fn answer<R: Threads + Wait + Sync>(rt: &R, alloc: Global, call: &str) -> Result<String, Refused> {
+fn result_of_library_call_named<R: Threads + Wait + Sync>(
+    rt: &R,
+    alloc: Global,
+    call: &str,
+) -> Result<String, Refused> {
     match call {
-        "trial" => trials::trial_answer(rt, alloc),
-        "report" => trials::report_answer(rt, alloc),
-        "rejudge" => judging::rejudge_answer(rt, alloc),
-        "campaign" => trials::campaign_answer(rt, alloc, 1),
-        "campaign_of_two" => trials::campaign_answer(rt, alloc, 2),
-        _ => answer_without_threads(alloc, call),
+        "trial" => trials::outcome_text_of_trial_on_stuck_system(rt, alloc),
+        "report" => trials::campaign_report_on_stuck_system(rt, alloc),
+        "rejudge" => judging::judge_output_for_counter_items(rt, alloc),
+        "campaign" => trials::trial_outcome_lines_on_stuck_systems(rt, alloc, 1),
+        "campaign_of_two" => trials::trial_outcome_lines_on_stuck_systems(rt, alloc, 2),
+        _ => result_of_call_without_threads(alloc, call),
     }
 }
 
 /// Prints the result of the call `call`, and returns whether it had enough memory.
-pub fn print_call<R: Threads + Wait + Sync + Print>(
+pub fn print_call_result_unless_out_of_memory<R: Threads + Wait + Sync + Print>(
     rt: &R,
     alloc: Global,
     call: &str,
 ) -> io::Result<bool> {
-    match answer(rt, alloc, call) {
+    match result_of_library_call_named(rt, alloc, call) {
         Ok(text) => println!(rt; "{call}: {text}")?,
         Err(Refused::NoMemory) => return Ok(false),
         Err(Refused::Otherwise(why)) => println!(rt; "{call}: {why} in place of an answer")?,
@@ -71,9 +75,12 @@ pub fn print_call<R: Threads + Wait + Sync + Print>(
 }
 
 /// Prints the result of each call, up to the first that runs out of memory.
-pub fn print_calls<R: Threads + Wait + Sync + Print>(rt: &R, alloc: Global) -> io::Result<()> {
+pub fn print_call_results_until_out_of_memory<R: Threads + Wait + Sync + Print>(
+    rt: &R,
+    alloc: Global,
+) -> io::Result<()> {
     for call in CALLS {
-        if !print_call(rt, alloc, call)? {
+        if !print_call_result_unless_out_of_memory(rt, alloc, call)? {
             return println!(rt; "{call}: no memory");
         }
     }

@@ -2,7 +2,7 @@
 ghost use Rattle.std.specs.Prelude.{◌≡◌, length};
 ghost use Rattle.pst_report.specs.InOrder.{AreOf};
 
-use crate::memory::trials::plan_of;
+use crate::memory::trials::plan_for_trials_of_one_command;
 use pst_campaign::{Unwatched, campaign};
 use pst_ledger::Closed;
 use pst_report::{ReportFault, report};
@@ -17,7 +17,7 @@ use std::thread::Threads;
 
 /// Returns how many proper prefixes of the report `report` misses, and the length of the report. For each prefix, the
 /// writer fails after it; `report` misses it unless it returns `WriteFailed` and writes just this prefix.
-fn count_missed_report_prefixes(
+fn missed_prefix_count_and_report_length(
     alloc: Global,
     plan: &Plan,
     closed: &Closed<Record>,
@@ -41,27 +41,29 @@ fn count_missed_report_prefixes(
     Ok((misses, whole.bytes.len()))
 }
 
-/// Runs a campaign and returns the `count_missed_report_prefixes` of its report.
-fn missed_by<R: Threads + Wait + Sync>(
+/// Runs a campaign and returns the `missed_prefix_count_and_report_length` of its report.
+fn run_campaign_and_count_missed_prefixes<R: Threads + Wait + Sync>(
     rt: &R,
     alloc: Global,
     plan: Arc<Plan>,
     systems: Vec<BoxedSystem>,
 ) -> Result<(usize, usize), AllocError> {
     match campaign(rt, alloc, plan.clone()?, systems, &Unwatched) {
-        Ok(closed) => count_missed_report_prefixes(alloc, &plan, &closed),
+        Ok(closed) => missed_prefix_count_and_report_length(alloc, &plan, &closed),
         Err(_) => Err(AllocError),
     }
 }
 
-/// Prints how many proper prefixes of a report are missed, as `count_missed_report_prefixes` counts them.
-pub fn print_report<R: Threads + Wait + Sync + Print + AllocGlobal>(rt: &R) -> io::Result<()> {
+/// Prints how many proper prefixes of a report are missed, as `missed_prefix_count_and_report_length` counts them.
+pub fn print_missed_report_prefix_count<R: Threads + Wait + Sync + Print + AllocGlobal>(
+    rt: &R,
+) -> io::Result<()> {
     let alloc = rt.alloc();
-    let Ok(plan) = plan_of(alloc, 20) else {
+    let Ok(plan) = plan_for_trials_of_one_command(alloc, 20) else {
         return println!(rt; "report: no plan");
     };
     let mut systems: Vec<BoxedSystem> = Vec::new(alloc);
     systems.push(Box::new(alloc, Stuck)?)?;
-    let (misses, length) = missed_by(rt, alloc, plan, systems)?;
+    let (misses, length) = run_campaign_and_count_missed_prefixes(rt, alloc, plan, systems)?;
     println!(rt; "report: {misses} beginnings missed of {length}")
 }

@@ -30,7 +30,7 @@ fn hex_digit(number: u32) -> u8
 
 /// Adds a byte.
 #[tactic(auto, using(crate::proofs::PageTexts::page_push))]
-pub fn push_byte(out: &mut Vec<u8>, byte: u8) -> Result<(), AllocError>
+pub fn push_known_page_safe_byte(out: &mut Vec<u8>, byte: u8) -> Result<(), AllocError>
     requires { IsPageByte byte }
     ensures { IsPageText out.old.items → OnOk result (IsPageText out.new.items) }
 {
@@ -42,12 +42,12 @@ pub fn push_byte(out: &mut Vec<u8>, byte: u8) -> Result<(), AllocError>
 fn add_json_unicode_escape(out: &mut Vec<u8>, number: u32) -> Result<(), AllocError>
     ensures { IsPageText out.old.items → OnOk result (IsPageText out.new.items) }
 {
-    push_byte(out, b'\\')?;
-    push_byte(out, b'u')?;
-    push_byte(out, hex_digit(number / 4096 % 16))?;
-    push_byte(out, hex_digit(number / 256 % 16))?;
-    push_byte(out, hex_digit(number / 16 % 16))?;
-    push_byte(out, hex_digit(number % 16))
+    push_known_page_safe_byte(out, b'\\')?;
+    push_known_page_safe_byte(out, b'u')?;
+    push_known_page_safe_byte(out, hex_digit(number / 4096 % 16))?;
+    push_known_page_safe_byte(out, hex_digit(number / 256 % 16))?;
+    push_known_page_safe_byte(out, hex_digit(number / 16 % 16))?;
+    push_known_page_safe_byte(out, hex_digit(number % 16))
 }
 
 /// Adds the escape of a character, or the escapes of its two surrogates if its number has more than 16 bits.
@@ -65,7 +65,7 @@ fn add_json_escaped_character(out: &mut Vec<u8>, character: char) -> Result<(), 
 }
 
 /// Returns the byte of a character that may be in a page: one of ASCII, except `<`, `>`, `&` and DEL.
-fn unescaped_json_byte(character: char) -> Option<u8>
+fn page_safe_ascii_byte(character: char) -> Option<u8>
     ensures { IfSome result IsPageByte }
 {
     match u8::try_from(u32::from(character)) {
@@ -74,7 +74,7 @@ fn unescaped_json_byte(character: char) -> Option<u8>
     }
 }
 
-/// Returns `json` with an escape for each character that `unescaped_json_byte` excludes. Such characters occur only in texts,
+/// Returns `json` with an escape for each character that `page_safe_ascii_byte` excludes. Such characters occur only in texts,
 /// which may contain escapes.
 #[tactic(auto, using(crate::proofs::PageTexts::empty_page))]
 pub fn page_safe_ascii_json(alloc: Global, json: &str) -> Result<Vec<u8>, AllocError>
@@ -82,8 +82,8 @@ pub fn page_safe_ascii_json(alloc: Global, json: &str) -> Result<Vec<u8>, AllocE
 {
     let mut out = Vec::new(alloc);
     for character in json.chars() {
-        match unescaped_json_byte(character) {
-            Some(byte) => push_byte(&mut out, byte)?,
+        match page_safe_ascii_byte(character) {
+            Some(byte) => push_known_page_safe_byte(&mut out, byte)?,
             None => add_json_escaped_character(&mut out, character)?,
         }
     }

@@ -1,7 +1,7 @@
 //! Calls.
 
 use crate::values::{
-    write_json_reply_without_value, write_json_value_and_text, write_json_values_member,
+    write_json_reply_without_value, write_json_text_and_value_or_length, write_json_values_member,
 };
 use crate::writing::{write_json_byte_string, write_json_number_member};
 use json::Writer;
@@ -22,7 +22,7 @@ pub fn write_json_call_id(
 }
 
 /// Writes the member `call` with the place of a call.
-pub fn write_json_call_member(
+pub fn write_json_call_member_with_id(
     writer: &mut Writer<Global>,
     alloc: Global,
     call: &Call<'_>,
@@ -39,7 +39,7 @@ fn write_json_reply_with_text(
     reply: &Reply,
 ) -> Result<(), AllocError> {
     match reply {
-        Reply::Value(value) => write_json_value_and_text(writer, alloc, model, value),
+        Reply::Value(value) => write_json_text_and_value_or_length(writer, alloc, model, value),
         Reply::Misfit => write_json_reply_without_value(writer, "misfit"),
         Reply::Failed => write_json_reply_without_value(writer, "failed"),
         Reply::NotRun => write_json_reply_without_value(writer, "not-run"),
@@ -47,7 +47,7 @@ fn write_json_reply_with_text(
 }
 
 /// Writes the member `op` with the name of the operation of a call.
-fn write_json_operation_member(
+fn write_json_operation_name_or_null_member(
     writer: &mut Writer<Global>,
     scene: &Scene<'_>,
     call: &Call<'_>,
@@ -60,7 +60,7 @@ fn write_json_operation_member(
 }
 
 /// Writes the members `id`, `number`, `part` and `index`: the place and the number of a call.
-fn write_json_call_place_members(
+fn write_json_call_identity_members(
     writer: &mut Writer<Global>,
     alloc: Global,
     call: &Call<'_>,
@@ -81,8 +81,8 @@ fn write_json_call(
     call: &Call<'_>,
 ) -> Result<(), AllocError> {
     writer.begin_object()?;
-    write_json_call_place_members(writer, alloc, call)?;
-    write_json_operation_member(writer, scene, call)?;
+    write_json_call_identity_members(writer, alloc, call)?;
+    write_json_operation_name_or_null_member(writer, scene, call)?;
     let args = call.command.args.as_slice();
     write_json_values_member(writer, alloc, "args", scene.model, args)?;
     if let Some(reply) = call.reply {

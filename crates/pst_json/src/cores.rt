@@ -1,8 +1,8 @@
 //! Cores.
 
-use crate::calls::write_json_call_member;
+use crate::calls::write_json_call_member_with_id;
 use crate::reasons::write_json_false_postcondition_members;
-use crate::values::{write_json_state_member, write_json_values_member};
+use crate::values::{write_json_state_spelling_member, write_json_values_member};
 use crate::walks::write_json_interleaving_member;
 use crate::writing::write_json_bool_member;
 use json::Writer;
@@ -20,10 +20,10 @@ fn write_json_why_answer_is_wrong_member(
     writer.key("why")?;
     writer.begin_object()?;
     write_json_false_postcondition_members(writer, alloc, model, &wrong.falsity)?;
-    if !wrong.word.is_empty() {
-        write_json_interleaving_member(writer, alloc, "by", wrong.word.as_slice())?;
+    if !wrong.interleaving.is_empty() {
+        write_json_interleaving_member(writer, alloc, "by", wrong.interleaving.as_slice())?;
     }
-    write_json_state_member(writer, alloc, "state", model, &wrong.state)?;
+    write_json_state_spelling_member(writer, alloc, "state", model, &wrong.state)?;
     writer.end_object()
 }
 
@@ -51,7 +51,7 @@ fn write_json_core_answer(
     answer: &CoreAnswer<'_>,
 ) -> Result<(), AllocError> {
     writer.begin_object()?;
-    write_json_call_member(writer, alloc, &answer.call)?;
+    write_json_call_member_with_id(writer, alloc, &answer.call)?;
     if let Some(wrong) = &answer.wrong {
         write_json_why_answer_is_wrong_member(writer, alloc, model, wrong)?;
     }
@@ -74,7 +74,7 @@ pub fn write_json_core_members(
         write_json_core_answer(writer, alloc, model, answer)?;
     }
     writer.end_array()?;
-    if core.is_in_prefix() {
+    if core.has_answers_only_in_prefix() {
         write_json_bool_member(writer, "prefix", true)?;
     }
     Ok(())

@@ -2,9 +2,9 @@
 ghost use Rattle.std.specs.Prelude.{IfOk};
 ghost use Rattle.pst_json.specs.Page.{IsPageText};
 
-use crate::ascii::push_byte;
+use crate::ascii::push_known_page_safe_byte;
 use crate::models::write_json_model_member;
-use crate::writing::into_ascii_json;
+use crate::writing::into_page_safe_ascii_json;
 use json::Writer;
 use pst_model::Source;
 use pst_sources::SourceFile;
@@ -82,8 +82,8 @@ fn json_document_first_line(
     write_json_model_member(&mut writer, alloc, model)?;
     writer.key("items")?;
     writer.begin_array()?;
-    let mut start = into_ascii_json(alloc, writer)?;
-    push_byte(&mut start, b'\n')?;
+    let mut start = into_page_safe_ascii_json(alloc, writer)?;
+    push_known_page_safe_byte(&mut start, b'\n')?;
     Ok(start)
 }
 

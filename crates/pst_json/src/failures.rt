@@ -1,9 +1,9 @@
 //! Callbacks that fail, and replies that are not values.
 
-use crate::calls::{write_json_call_id, write_json_call_member};
+use crate::calls::{write_json_call_id, write_json_call_member_with_id};
 use crate::writing::{
-    write_json_byte_string, write_json_expression_member, write_json_spelling_cut_if_long,
-    write_json_text_member, write_json_type,
+    write_json_byte_string, write_json_expression_text_member, write_json_spelling_cut_if_long,
+    write_json_text_member, write_json_type_text,
 };
 use json::Writer;
 use pst_explain::{CallWithBrokenReply, ExpressionWithNameValues, Failure, FaultyPartWithValues};
@@ -12,7 +12,7 @@ use pst_scene::{Binding, value_text};
 use std::alloc::{AllocError, Global};
 
 /// Writes a name with its value.
-fn write_json_name_and_value(
+fn write_json_name_and_value_text(
     writer: &mut Writer<Global>,
     alloc: Global,
     model: &Source,
@@ -32,17 +32,17 @@ fn write_json_evaluated_expression_members(
     model: &Source,
     evaluated: &ExpressionWithNameValues<'_>,
 ) -> Result<(), AllocError> {
-    write_json_expression_member(writer, alloc, "expr", evaluated.expr)?;
+    write_json_expression_text_member(writer, alloc, "expr", evaluated.expr)?;
     writer.key("names")?;
     writer.begin_array()?;
     for binding in &evaluated.names {
-        write_json_name_and_value(writer, alloc, model, binding)?;
+        write_json_name_and_value_text(writer, alloc, model, binding)?;
     }
     writer.end_array()
 }
 
 /// Writes the member `part`: the part that faults.
-fn write_json_failing_part_member(
+fn write_json_faulty_part_member(
     writer: &mut Writer<Global>,
     alloc: Global,
     model: &Source,
@@ -58,7 +58,7 @@ fn write_json_failing_part_member(
 }
 
 /// Writes the call whose callback fails, or `null`, and the callback.
-fn write_json_failing_call_members(
+fn write_json_call_callback_outcome_members(
     writer: &mut Writer<Global>,
     alloc: Global,
     failure: &Failure<'_>,
@@ -80,7 +80,7 @@ fn write_json_failing_call_members(
 }
 
 /// Writes the member `callback`: the callback that fails, its expression, and the part of it that faults.
-pub fn write_json_failing_callback_member(
+pub fn write_json_false_or_faulty_callback_member(
     writer: &mut Writer<Global>,
     alloc: Global,
     model: &Source,
@@ -88,18 +88,18 @@ pub fn write_json_failing_callback_member(
 ) -> Result<(), AllocError> {
     writer.key("callback")?;
     writer.begin_object()?;
-    write_json_failing_call_members(writer, alloc, failure)?;
+    write_json_call_callback_outcome_members(writer, alloc, failure)?;
     if let Some(expression) = &failure.expression {
         write_json_evaluated_expression_members(writer, alloc, model, &expression.whole)?;
         if let Some(part) = &expression.part {
-            write_json_failing_part_member(writer, alloc, model, part)?;
+            write_json_faulty_part_member(writer, alloc, model, part)?;
         }
     }
     writer.end_object()
 }
 
 /// Writes the member `broken`: the call whose reply is not a value, and the expected type.
-pub fn write_json_broken_reply_member(
+pub fn write_json_call_with_broken_reply_member(
     writer: &mut Writer<Global>,
     alloc: Global,
     broken: &CallWithBrokenReply<'_>,
@@ -107,11 +107,11 @@ pub fn write_json_broken_reply_member(
     writer.key("broken")?;
     writer.begin_object()?;
     if let Some(call) = &broken.call {
-        write_json_call_member(writer, alloc, call)?;
+        write_json_call_member_with_id(writer, alloc, call)?;
     }
     if let Some(wanted) = broken.wanted {
         writer.key("wanted")?;
-        write_json_type(writer, alloc, wanted)?;
+        write_json_type_text(writer, alloc, wanted)?;
     }
     writer.end_object()
 }

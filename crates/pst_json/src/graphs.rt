@@ -1,12 +1,12 @@
 //! Searches of items.
 
-use crate::calls::write_json_call_member;
+use crate::calls::write_json_call_member_with_id;
 use crate::reasons::write_json_dead_end_member;
-use crate::values::write_json_state_member;
+use crate::values::write_json_state_spelling_member;
 use crate::writing::{write_json_bool_member, write_json_number_member};
 use json::Writer;
 use pst_explain::{
-    Explanation, GraphMove, GraphPosition, JudgementReason, MoveTarget, SearchGraph,
+    Explanation, GraphMove, GraphMoveTarget, GraphPosition, JudgementReason, SearchGraph,
     build_search_graph_if_small,
 };
 use pst_model::Source;
@@ -63,7 +63,7 @@ fn calls_of_explanation_interleaving<'a>(
 }
 
 /// The search of an item that is written, if it has one that is small and an initial state.
-fn search_graph_to_write_if_small<'a>(
+fn small_search_graph_to_write_if_any<'a>(
     alloc: Global,
     explanation: &Explanation<'a>,
 ) -> Result<Option<SearchGraph<'a>>, AllocError> {
@@ -92,7 +92,7 @@ fn write_json_position(
         writer.u64(*count as u64)?;
     }
     writer.end_array()?;
-    write_json_state_member(writer, alloc, "state", model, &position.state)?;
+    write_json_state_spelling_member(writer, alloc, "state", model, &position.state)?;
     writer.end_object()
 }
 
@@ -106,15 +106,15 @@ fn write_json_move(
 ) -> Result<(), AllocError> {
     writer.begin_object()?;
     write_json_number_member(writer, "from", step.from)?;
-    write_json_call_member(writer, alloc, &step.call)?;
+    write_json_call_member_with_id(writer, alloc, &step.call)?;
     match &step.target {
-        MoveTarget::Position(to) => {
+        GraphMoveTarget::Position(to) => {
             write_json_number_member(writer, "to", *to)?;
             if is_shown {
                 write_json_bool_member(writer, "on", true)?;
             }
         }
-        MoveTarget::DeadEnd(why) => write_json_dead_end_member(writer, alloc, model, why)?,
+        GraphMoveTarget::DeadEnd(why) => write_json_dead_end_member(writer, alloc, model, why)?,
     }
     writer.end_object()
 }
@@ -166,7 +166,7 @@ fn write_json_graph_member(
 
 /// Writes the member `search`: how many interleavings there are, and how many positions and moves
 /// `search` has.
-fn write_json_search_member(
+fn write_json_search_counts_member(
     writer: &mut Writer<Global>,
     scene: &Scene<'_>,
     search: Option<&SearchGraph<'_>>,
@@ -183,13 +183,13 @@ fn write_json_search_member(
 }
 
 /// Writes the member `search`, and `graph` if the search of the item is small and the item fails.
-pub fn write_json_search_and_graph_if_small(
+pub fn write_json_search_counts_and_any_graph(
     writer: &mut Writer<Global>,
     alloc: Global,
     explanation: &Explanation<'_>,
 ) -> Result<(), AllocError> {
-    let search = search_graph_to_write_if_small(alloc, explanation)?;
-    write_json_search_member(writer, &explanation.scene, search.as_ref())?;
+    let search = small_search_graph_to_write_if_any(alloc, explanation)?;
+    write_json_search_counts_member(writer, &explanation.scene, search.as_ref())?;
     match &search {
         Some(search) => write_json_graph_member(writer, alloc, explanation.scene.model, search),
         None => Ok(()),

@@ -4,17 +4,19 @@ ghost use Rattle.pst_json.specs.Page.{IsPageText};
 
 use crate::calls::write_json_calls_member;
 use crate::cores::write_json_core_members;
-use crate::failures::{write_json_broken_reply_member, write_json_failing_callback_member};
-use crate::graphs::write_json_search_and_graph_if_small;
-use crate::walks::write_json_walk_member;
-use crate::writing::{into_ascii_json, write_json_number_member, write_json_text_member};
+use crate::failures::{
+    write_json_call_with_broken_reply_member, write_json_false_or_faulty_callback_member,
+};
+use crate::graphs::write_json_search_counts_and_any_graph;
+use crate::walks::write_json_interleaving_states_member;
+use crate::writing::{into_page_safe_ascii_json, write_json_number_member, write_json_text_member};
 use json::Writer;
 use pst_explain::{Explanation, JudgementReason, TreePlace};
 use pst_judge::{Judged, Verdict, Why};
 use std::alloc::{AllocError, Global};
 
 /// Returns the first word of a judgement.
-fn json_verdict_word(judged: &Judged) -> &'static str {
+fn json_judgement_name(judged: &Judged) -> &'static str {
     match judged {
         Judged::Verdict(Verdict::Explained(_)) => "explained",
         Judged::Verdict(Verdict::Faulted(_)) => "fault",
@@ -42,7 +44,7 @@ fn write_json_item_place_member(
 }
 
 /// Writes the members of an item except its reason and its search.
-fn write_json_item_head_members(
+fn write_json_item_members_before_reason(
     writer: &mut Writer<Global>,
     alloc: Global,
     explanation: &Explanation<'_>,
@@ -51,7 +53,7 @@ fn write_json_item_head_members(
     let line = explanation.judged.text(alloc)?;
     write_json_number_member(writer, "item", explanation.number)?;
     write_json_text_member(writer, "kind", if is_run { "run" } else { "case" })?;
-    write_json_text_member(writer, "verdict", json_verdict_word(explanation.judged))?;
+    write_json_text_member(writer, "verdict", json_judgement_name(explanation.judged))?;
     write_json_text_member(writer, "line", line.as_str())?;
     if let Some(place) = &explanation.place {
         write_json_item_place_member(writer, place)?;
@@ -95,13 +97,13 @@ fn write_json_reason_members(
         write_json_core_members(writer, alloc, model, core)?;
     }
     if let Some(walk) = reason.interleaving() {
-        write_json_walk_member(writer, alloc, explanation, walk)?;
+        write_json_interleaving_states_member(writer, alloc, explanation, walk)?;
     }
     if let Some(failure) = reason.failure() {
-        write_json_failing_callback_member(writer, alloc, model, failure)?;
+        write_json_false_or_faulty_callback_member(writer, alloc, model, failure)?;
     }
     if let JudgementReason::Broken(broken) = reason {
-        write_json_broken_reply_member(writer, alloc, broken)?;
+        write_json_call_with_broken_reply_member(writer, alloc, broken)?;
     }
     write_json_left_out_names_if_any(writer, reason)
 }
@@ -117,14 +119,14 @@ fn explanation_json_with_optional_trial(
 {
     let mut writer = Writer::new(Vec::new(alloc));
     writer.begin_object()?;
-    write_json_item_head_members(&mut writer, alloc, explanation)?;
+    write_json_item_members_before_reason(&mut writer, alloc, explanation)?;
     if let Some(trial) = trial {
         write_json_number_member(&mut writer, "trial", trial)?;
     }
     write_json_reason_members(&mut writer, alloc, explanation)?;
-    write_json_search_and_graph_if_small(&mut writer, alloc, explanation)?;
+    write_json_search_counts_and_any_graph(&mut writer, alloc, explanation)?;
     writer.end_object()?;
-    into_ascii_json(alloc, writer)
+    into_page_safe_ascii_json(alloc, writer)
 }
 
 /// Returns the explanation of an item as a JSON object, without a line end.

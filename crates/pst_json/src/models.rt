@@ -1,10 +1,11 @@
 //! Models.
 
 use crate::writing::{
-    write_json_expression, write_json_expression_member, write_json_text_member, write_json_type,
+    write_json_expression_text, write_json_expression_text_member, write_json_text_member,
+    write_json_type_text,
 };
 use json::Writer;
-use pst_model::{Fun, Item, Op, Param, Source, initial_state_of, state_of};
+use pst_model::{Fun, Item, Op, Param, Source, find_initial_state_expression, find_state_type};
 use std::alloc::{AllocError, Global};
 
 /// Writes the member `params`: the parameters with their types.
@@ -18,7 +19,7 @@ fn write_json_parameters_member(
     for param in params {
         writer.begin_array()?;
         writer.string(param.name.as_str())?;
-        write_json_type(writer, alloc, &param.ty)?;
+        write_json_type_text(writer, alloc, &param.ty)?;
         writer.end_array()?;
     }
     writer.end_array()
@@ -34,10 +35,10 @@ fn write_json_operation(
     write_json_text_member(writer, "name", op.name.as_str())?;
     write_json_parameters_member(writer, alloc, op.params.as_slice())?;
     writer.key("result")?;
-    write_json_type(writer, alloc, &op.result)?;
-    write_json_expression_member(writer, alloc, "pre", &op.pre)?;
-    write_json_expression_member(writer, alloc, "next", &op.next)?;
-    write_json_expression_member(writer, alloc, "post", &op.post)?;
+    write_json_type_text(writer, alloc, &op.result)?;
+    write_json_expression_text_member(writer, alloc, "pre", &op.pre)?;
+    write_json_expression_text_member(writer, alloc, "next", &op.next)?;
+    write_json_expression_text_member(writer, alloc, "post", &op.post)?;
     writer.end_object()
 }
 
@@ -51,8 +52,8 @@ fn write_json_function(
     write_json_text_member(writer, "name", fun.name.as_str())?;
     write_json_parameters_member(writer, alloc, fun.params.as_slice())?;
     writer.key("result")?;
-    write_json_type(writer, alloc, &fun.result)?;
-    write_json_expression_member(writer, alloc, "body", &fun.body)?;
+    write_json_type_text(writer, alloc, &fun.result)?;
+    write_json_expression_text_member(writer, alloc, "body", &fun.body)?;
     writer.end_object()
 }
 
@@ -89,18 +90,18 @@ fn write_json_functions_member(
 }
 
 /// Writes the members `state` and `init`: the type of the state, and the initial state.
-fn write_json_state_members(
+fn write_json_state_type_and_init_members(
     writer: &mut Writer<Global>,
     alloc: Global,
     items: &[Item],
 ) -> Result<(), AllocError> {
-    if let Some(ty) = state_of(items) {
+    if let Some(ty) = find_state_type(items) {
         writer.key("state")?;
-        write_json_type(writer, alloc, ty)?;
+        write_json_type_text(writer, alloc, ty)?;
     }
-    if let Some(expr) = initial_state_of(items) {
+    if let Some(expr) = find_initial_state_expression(items) {
         writer.key("init")?;
-        write_json_expression(writer, alloc, expr)?;
+        write_json_expression_text(writer, alloc, expr)?;
     }
     Ok(())
 }
@@ -115,7 +116,7 @@ pub fn write_json_model_member(
     writer.key("model")?;
     writer.begin_object()?;
     write_json_text_member(writer, "name", model.name.as_str())?;
-    write_json_state_members(writer, alloc, items)?;
+    write_json_state_type_and_init_members(writer, alloc, items)?;
     write_json_operations_member(writer, alloc, items)?;
     write_json_functions_member(writer, alloc, items)?;
     writer.end_object()

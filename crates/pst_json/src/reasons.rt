@@ -2,7 +2,7 @@
 
 use crate::values::write_json_value_member;
 use crate::writing::{
-    write_json_expression_member, write_json_spelling_cut_if_long, write_json_spelling_member,
+    write_json_expression_text_member, write_json_spelling_cut_if_long, write_json_spelling_member,
 };
 use json::Writer;
 use pst_model::Source;
@@ -34,7 +34,7 @@ fn write_json_false_part_members(
     model: &Source,
     found: &FalsePart<'_>,
 ) -> Result<(), AllocError> {
-    write_json_expression_member(writer, alloc, "part", found.part)?;
+    write_json_expression_text_member(writer, alloc, "part", found.part)?;
     match &found.evidence {
         Evidence::Wants(value) => write_json_value_member(writer, alloc, "wants", model, value),
         Evidence::Compares(first, second) => write_json_compared_values_member(

@@ -13,7 +13,7 @@ use std::alloc::{AllocError, Global};
 const MOST_EXACT: i64 = 9_007_199_254_740_991;
 
 /// Writes an integer: a number, or an object with its digits if it is too large to be read exactly.
-fn write_json_integer(writer: &mut Writer<Global>, number: i64) -> Result<(), AllocError> {
+fn write_json_exact_integer(writer: &mut Writer<Global>, number: i64) -> Result<(), AllocError> {
     if -MOST_EXACT <= number && number <= MOST_EXACT {
         return writer.i64(number);
     }
@@ -24,9 +24,9 @@ fn write_json_integer(writer: &mut Writer<Global>, number: i64) -> Result<(), Al
 }
 
 /// Writes a key of a map.
-fn write_json_tagged_map_key(writer: &mut Writer<Global>, key: &Key) -> Result<(), AllocError> {
+fn write_json_exact_map_key(writer: &mut Writer<Global>, key: &Key) -> Result<(), AllocError> {
     match key {
-        Key::Int(number) => write_json_integer(writer, *number),
+        Key::Int(number) => write_json_exact_integer(writer, *number),
         Key::Bool(holds) => writer.boolean(*holds),
         Key::Text(text) => writer.string(text.as_str()),
     }
@@ -40,7 +40,7 @@ fn write_json_tagged_variable(writer: &mut Writer<Global>, number: u32) -> Resul
 }
 
 /// Writes the name of an operation.
-fn write_json_operation_name(
+fn write_json_operation_name_or_null(
     writer: &mut Writer<Global>,
     model: &Source,
     number: u32,
@@ -70,7 +70,7 @@ fn write_json_tagged_value(
     value: &Value,
 ) -> Result<(), AllocError> {
     match value {
-        Value::Int(number) => write_json_integer(writer, *number),
+        Value::Int(number) => write_json_exact_integer(writer, *number),
         Value::Bool(holds) => writer.boolean(*holds),
         Value::Text(text) => writer.string(text.as_str()),
         Value::List(items) => {
@@ -98,7 +98,7 @@ fn write_json_tagged_value(
         }
         Value::Call(operation, args) => {
             begin_json_object_with_array(writer, "call")?;
-            write_json_operation_name(writer, model, *operation)?;
+            write_json_operation_name_or_null(writer, model, *operation)?;
             write_json_array_items_and_end(writer, model, args.as_slice())?;
             writer.end_object()
         }
@@ -132,7 +132,7 @@ fn write_json_map_entries_and_end(
             return writer.end_array();
         };
         writer.begin_array()?;
-        write_json_tagged_map_key(writer, key)?;
+        write_json_exact_map_key(writer, key)?;
         write_json_tagged_value(writer, model, value)?;
         writer.end_array()?;
         rest = others;
@@ -142,7 +142,7 @@ fn write_json_map_entries_and_end(
 
 /// Writes an object with the spelling of a value and the value as JSON. If the spelling is long, the object has its
 /// length in place of the value.
-pub fn write_json_value_and_text(
+pub fn write_json_text_and_value_or_length(
     writer: &mut Writer<Global>,
     alloc: Global,
     model: &Source,
@@ -171,7 +171,7 @@ pub fn write_json_values_member(
     writer.key(key)?;
     writer.begin_array()?;
     for value in values {
-        write_json_value_and_text(writer, alloc, model, value)?;
+        write_json_text_and_value_or_length(writer, alloc, model, value)?;
     }
     writer.end_array()
 }
@@ -185,11 +185,11 @@ pub fn write_json_value_member(
     value: &Value,
 ) -> Result<(), AllocError> {
     writer.key(key)?;
-    write_json_value_and_text(writer, alloc, model, value)
+    write_json_text_and_value_or_length(writer, alloc, model, value)
 }
 
 /// Writes a member whose value is the spelling of a value, as states are written.
-pub fn write_json_state_member(
+pub fn write_json_state_spelling_member(
     writer: &mut Writer<Global>,
     alloc: Global,
     key: &str,

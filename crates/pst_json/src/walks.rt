@@ -1,15 +1,15 @@
 //! Interleavings.
 
-use crate::calls::write_json_call_member;
+use crate::calls::write_json_call_member_with_id;
 use crate::reasons::write_json_dead_end_member;
-use crate::values::write_json_state_member;
+use crate::values::write_json_state_spelling_member;
 use crate::writing::{write_json_byte_string, write_json_text_member};
 use json::Writer;
 use pst_explain::{
     BlockedCall, Explanation, InterleavingStates, InterleavingStep, JudgementReason,
 };
 use pst_model::Source;
-use pst_scene::{PreAnswer, add_interleaving_letters};
+use pst_scene::{PreAnswer, add_interleaving_letters_or_dash};
 use std::alloc::{AllocError, Global};
 
 /// Writes a member whose value is an interleaving of branches.
@@ -17,24 +17,24 @@ pub fn write_json_interleaving_member(
     writer: &mut Writer<Global>,
     alloc: Global,
     key: &str,
-    word: &[usize],
+    interleaving: &[usize],
 ) -> Result<(), AllocError> {
     let mut text = Vec::new(alloc);
-    add_interleaving_letters(&mut text, word)?;
+    add_interleaving_letters_or_dash(&mut text, interleaving)?;
     writer.key(key)?;
     write_json_byte_string(writer, alloc, text.as_slice())
 }
 
 /// Writes the call of a step, the state after it, and its precondition if that is not true.
-fn write_json_walk_step(
+fn write_json_interleaving_step(
     writer: &mut Writer<Global>,
     alloc: Global,
     model: &Source,
     step: &InterleavingStep<'_>,
 ) -> Result<(), AllocError> {
     writer.begin_object()?;
-    write_json_call_member(writer, alloc, &step.call)?;
-    write_json_state_member(writer, alloc, "state", model, &step.state)?;
+    write_json_call_member_with_id(writer, alloc, &step.call)?;
+    write_json_state_spelling_member(writer, alloc, "state", model, &step.state)?;
     match step.precondition {
         PreAnswer::Holds => {}
         PreAnswer::Fails => write_json_text_member(writer, "pre", "false")?,
@@ -51,13 +51,13 @@ fn write_json_blocked_call(
     stopped: &BlockedCall<'_>,
 ) -> Result<(), AllocError> {
     writer.begin_object()?;
-    write_json_call_member(writer, alloc, &stopped.call)?;
+    write_json_call_member_with_id(writer, alloc, &stopped.call)?;
     write_json_dead_end_member(writer, alloc, model, &stopped.why)?;
     writer.end_object()
 }
 
 /// What the interleaving of a reason shows.
-fn json_walk_kind(reason: &JudgementReason<'_>) -> &'static str {
+fn json_interleaving_kind(reason: &JudgementReason<'_>) -> &'static str {
     match reason {
         JudgementReason::Explained(_) => "explains",
         JudgementReason::Unexplained { .. } => "furthest",
@@ -82,7 +82,7 @@ fn write_json_blocked_calls_member(
 }
 
 /// Writes the member `steps`: the calls in their order.
-fn write_json_walk_steps_member(
+fn write_json_interleaving_steps_member(
     writer: &mut Writer<Global>,
     alloc: Global,
     model: &Source,
@@ -91,13 +91,13 @@ fn write_json_walk_steps_member(
     writer.key("steps")?;
     writer.begin_array()?;
     for step in steps {
-        write_json_walk_step(writer, alloc, model, step)?;
+        write_json_interleaving_step(writer, alloc, model, step)?;
     }
     writer.end_array()
 }
 
 /// Writes the member `walk` of an explanation.
-pub fn write_json_walk_member(
+pub fn write_json_interleaving_states_member(
     writer: &mut Writer<Global>,
     alloc: Global,
     explanation: &Explanation<'_>,
@@ -106,12 +106,12 @@ pub fn write_json_walk_member(
     let model = explanation.scene.model;
     writer.key("walk")?;
     writer.begin_object()?;
-    write_json_text_member(writer, "kind", json_walk_kind(&explanation.reason))?;
-    write_json_interleaving_member(writer, alloc, "word", walk.word.as_slice())?;
+    write_json_text_member(writer, "kind", json_interleaving_kind(&explanation.reason))?;
+    write_json_interleaving_member(writer, alloc, "word", walk.interleaving.as_slice())?;
     if let Some(start) = &walk.start {
-        write_json_state_member(writer, alloc, "start", model, start)?;
+        write_json_state_spelling_member(writer, alloc, "start", model, start)?;
     }
-    write_json_walk_steps_member(writer, alloc, model, walk.steps.as_slice())?;
+    write_json_interleaving_steps_member(writer, alloc, model, walk.steps.as_slice())?;
     write_json_blocked_calls_member(writer, alloc, model, walk.stopped.as_slice())?;
     writer.end_object()
 }

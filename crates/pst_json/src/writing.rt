@@ -6,7 +6,7 @@ use crate::ascii::page_safe_ascii_json;
 use json::Writer;
 use pst_model::Expr;
 use pst_print::ty_form;
-use pst_scene::{add_tree_spelling, cut_in_middle, expression_text};
+use pst_scene::{add_tree_spelling, cut_in_middle_if_too_long, expression_text};
 use pst_value::Ty;
 use std::alloc::{AllocError, Global};
 
@@ -26,7 +26,10 @@ fn decode_utf8_or_latin1(alloc: Global, bytes: &[u8]) -> Result<String, AllocErr
 }
 
 /// Returns the written JSON, in ASCII.
-pub fn into_ascii_json(alloc: Global, writer: Writer<Global>) -> Result<Vec<u8>, AllocError>
+pub fn into_page_safe_ascii_json(
+    alloc: Global,
+    writer: Writer<Global>,
+) -> Result<Vec<u8>, AllocError>
     ensures { IfOk result (λ text. IsPageText text.items) }
 {
     let json = writer.into_inner();
@@ -50,12 +53,12 @@ pub fn write_json_spelling_cut_if_long(
     alloc: Global,
     spelling: &[u8],
 ) -> Result<(), AllocError> {
-    let text = cut_in_middle(alloc, spelling, MOST_BYTES)?;
+    let text = cut_in_middle_if_too_long(alloc, spelling, MOST_BYTES)?;
     write_json_byte_string(writer, alloc, text.as_slice())
 }
 
 /// Writes an expression as a text.
-pub fn write_json_expression(
+pub fn write_json_expression_text(
     writer: &mut Writer<Global>,
     alloc: Global,
     expr: &Expr,
@@ -65,7 +68,7 @@ pub fn write_json_expression(
 }
 
 /// Writes a type as a text.
-pub fn write_json_type(
+pub fn write_json_type_text(
     writer: &mut Writer<Global>,
     alloc: Global,
     ty: &Ty,
@@ -97,14 +100,14 @@ pub fn write_json_spelling_member(
 }
 
 /// Writes a member whose value is an expression as a text.
-pub fn write_json_expression_member(
+pub fn write_json_expression_text_member(
     writer: &mut Writer<Global>,
     alloc: Global,
     key: &str,
     expr: &Expr,
 ) -> Result<(), AllocError> {
     writer.key(key)?;
-    write_json_expression(writer, alloc, expr)
+    write_json_expression_text(writer, alloc, expr)
 }
 
 /// Writes a member whose value is a number.

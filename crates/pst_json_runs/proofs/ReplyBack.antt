@@ -4,7 +4,7 @@ use Rattle.std.specs.Prelude.{codes}
 use Rattle.std.specs.List.{AllByRecursion}
 use Rattle.json.specs.Json.{Json, null, boolean, number, string, array, object, no_items, Members, no_members, member}
 use Rattle.json.specs.Value.{items_of}
-use Rattle.pst_case.proofs.Callless.{holds_ref-call}
+use Rattle.pst_case.proofs.Callless.{holds_ref_or_call-call}
 use Rattle.pst_case.specs.Matches.{reply_fits, part_matches, branches_match}
 use Rattle.pst_case.specs.Shape.{type_in}
 use Rattle.pst_case.specs.declared.case.Command.{Command}
@@ -105,7 +105,7 @@ module _ (m : Source) (model : WellModel m) (has : HasOperations m.items) (langu
       let o = a.operation in
       let ops = parameters_of m.items in
       let low = room_is o.result (has c.op o a.known).result in
-      let call = holds_ref-call o.result (well_operation m c.op o model a.known).result in
+      let call = holds_ref_or_call-call o.result (well_operation m c.op o model a.known).result in
       let fit : fits [] [] ops v o.result ≡ true = ap (λ q. fits_in m [] [] v (type_in q)) (sym a.known) ∙ e in
       let again = reply_again ops (in_replies m) v o.result (omega arith) call (λ e. (language e c.op o a.known).result) fit in
       let other = Word (codes "misfit") in

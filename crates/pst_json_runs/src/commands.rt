@@ -4,7 +4,7 @@ ghost use Rattle.json.specs.Value.{items_view, value_view};
 ghost use Rattle.pst_json_runs.specs.Trees as spec;
 
 use crate::reading::value_from_json;
-use crate::spelled::form_or_if_unspellable;
+use crate::spelled::form_or_other_if_unspellable;
 use json::Value as Json;
 use pst_model::{Op, Param, Source, operation_number, operation_of};
 use pst_runs::value_form;
@@ -21,7 +21,7 @@ pub fn empty_node_form(alloc: Global) -> Form
 
 /// The parts of an array.
 #[tactic(auto, using(crate::proofs::Views::views))]
-pub fn json_array_items<'b, 'a>(json: &'b Json<'a>) -> &'b [Json<'a>]
+pub fn json_array_items_or_empty<'b, 'a>(json: &'b Json<'a>) -> &'b [Json<'a>]
     ensures { items_view result.now ≡ spec.items_in (value_view json.now) }
 {
     match json {
@@ -31,7 +31,7 @@ pub fn json_array_items<'b, 'a>(json: &'b Json<'a>) -> &'b [Json<'a>]
 }
 
 /// The tree of a value, or `other` if it has no spelling. JSON that spells no value has the tree `()`.
-pub fn value_form_or_if_unspellable(
+pub fn value_form_or_other_or_empty(
     alloc: Global,
     other: Form,
     value: Option<Value>,
@@ -39,7 +39,7 @@ pub fn value_form_or_if_unspellable(
     ensures { IfOk result (λ form. form ≡ spec.tree_or other value) }
 {
     match value {
-        Some(value) => Ok(form_or_if_unspellable(value_form(alloc, &value)?, other)),
+        Some(value) => Ok(form_or_other_if_unspellable(value_form(alloc, &value)?, other)),
         None => Ok(empty_node_form(alloc)),
     }
 }
@@ -52,7 +52,7 @@ pub fn find_operation_in_model<'a>(model: &'a Source, name: &str) -> Option<&'a 
     operation_of(model.items.as_slice(), number)
 }
 
-fn argument_form_from_json(
+fn argument_form_or_empty_from_json(
     alloc: Global,
     ty: Option<&Ty>,
     json: &Json<'_>,
@@ -60,7 +60,7 @@ fn argument_form_from_json(
     ensures { IfOk result (λ form. form ≡ spec.argument_form (option_copied ty.entry) (value_view json.now)) }
 {
     let value = value_from_json(alloc, ty, json)?;
-    value_form_or_if_unspellable(alloc, empty_node_form(alloc), value)
+    value_form_or_other_or_empty(alloc, empty_node_form(alloc), value)
 }
 
 /// The name of an operation, and arguments at the types of parameters.
@@ -73,7 +73,7 @@ fn call_form_with_param_types(
     ensures { IfOk result (λ form. form ≡ spec.named_form name.now params.now (items_view args.now)) }
 {
     let mut forms = Items::new(alloc);
-    forms.push(operation_name_form(alloc, name)?)?;
+    forms.push(operation_name_form_or_question_mark(alloc, name)?)?;
     let mut rest = params;
     for arg in args {
         let ty = match rest.split_first() {
@@ -83,17 +83,17 @@ fn call_form_with_param_types(
             }
             None => None,
         };
-        forms.push(argument_form_from_json(alloc, ty, arg)?)?;
+        forms.push(argument_form_or_empty_from_json(alloc, ty, arg)?)?;
     }
     Ok(Form::Node(forms))
 }
 
 /// The name of an operation. One that is no word names none, as `?` does.
-fn operation_name_form(alloc: Global, name: &str) -> Result<Form, AllocError>
+fn operation_name_form_or_question_mark(alloc: Global, name: &str) -> Result<Form, AllocError>
     ensures { IfOk result (λ form. form ≡ spec.name_form name.now) }
 {
     let other = word(alloc, "?")?;
-    Ok(form_or_if_unspellable(word(alloc, name)?, other))
+    Ok(form_or_other_if_unspellable(word(alloc, name)?, other))
 }
 
 fn call_form_from_json(
@@ -116,14 +116,14 @@ fn call_form_from_json(
 }
 
 /// The tree of `["op", arg, ..]`.
-fn command_form_from_json(
+fn command_form_or_empty_from_json(
     alloc: Global,
     model: &Source,
     json: &Json<'_>,
 ) -> Result<Form, AllocError>
     ensures { IfOk result (λ form. form ≡ spec.command_form model.now (value_view json.now)) }
 {
-    match json_array_items(json).split_first() {
+    match json_array_items_or_empty(json).split_first() {
         Some((first, args)) => match first {
             Json::String(name) => call_form_from_json(alloc, model, name, args),
             _ => Ok(empty_node_form(alloc)),
@@ -142,7 +142,7 @@ pub fn command_forms_from_json(
 {
     let mut forms = Items::new(alloc);
     for command in commands {
-        forms.push(command_form_from_json(alloc, model, command)?)?;
+        forms.push(command_form_or_empty_from_json(alloc, model, command)?)?;
     }
     Ok(forms)
 }

@@ -5,12 +5,12 @@ ghost use Rattle.json.specs.Value.{items_view, value_view};
 ghost use Rattle.pst_json_runs.specs.Shown.{shown};
 ghost use Rattle.pst_json_runs.specs.Trees as spec;
 
-use crate::commands::{command_forms_from_json, empty_node_form, json_array_items};
-use crate::replies::{reply_lists_of_parts_from_json, rest_after_first_json};
-use crate::spelled::form_or_if_unspellable;
+use crate::commands::{command_forms_from_json, empty_node_form, json_array_items_or_empty};
+use crate::replies::{reply_list_forms_of_parts_from_json, rest_after_first_json};
+use crate::spelled::form_or_other_if_unspellable;
 use json::Value as Json;
 use pst_model::Source;
-use pst_sexpr::{Form, headed, list_of};
+use pst_sexpr::{Form, headed, list_of_one_form};
 use pst_value::Items;
 use std::alloc::{AllocError, Global};
 
@@ -39,7 +39,7 @@ fn are_json_arrays(parts: &[Json<'_>]) -> bool
 fn is_json_array_of_arrays(json: &Json<'_>) -> bool
     ensures { result ≡ spec.are_parts (value_view json.now) }
 {
-    is_json_array(json) && are_json_arrays(json_array_items(json))
+    is_json_array(json) && are_json_arrays(json_array_items_or_empty(json))
 }
 
 /// Whether it is an array, if it is there.
@@ -52,7 +52,7 @@ fn is_absent_or_json_array(json: Option<&Json<'_>>) -> bool
     }
 }
 
-fn is_json_branches_member(json: Option<&Json<'_>>) -> bool
+fn is_present_json_array_of_arrays(json: Option<&Json<'_>>) -> bool
     ensures { result ≡ spec.are_branches (shown json.entry) }
 {
     match json {
@@ -61,7 +61,7 @@ fn is_json_branches_member(json: Option<&Json<'_>>) -> bool
     }
 }
 
-fn is_json_replies_member(json: Option<&Json<'_>>) -> bool
+fn is_absent_or_json_array_of_arrays(json: Option<&Json<'_>>) -> bool
     ensures { result ≡ spec.are_lists (shown json.entry) }
 {
     match json {
@@ -70,7 +70,7 @@ fn is_json_replies_member(json: Option<&Json<'_>>) -> bool
     }
 }
 
-fn count_json_if_present(json: Option<&Json<'_>>) -> usize
+fn one_if_present_else_zero(json: Option<&Json<'_>>) -> usize
     ensures { result ≡ spec.count (shown json.entry) }
 {
     match json {
@@ -80,17 +80,17 @@ fn count_json_if_present(json: Option<&Json<'_>>) -> usize
 }
 
 /// How many of the parts of an item are there.
-fn count_item_parts(json: &Json<'_>) -> usize
+fn count_known_json_item_members(json: &Json<'_>) -> usize
     ensures { result ≡ spec.named (value_view json.now) }
 {
-    count_json_if_present(json.get("prefix"))
-        + count_json_if_present(json.get("branches"))
-        + count_json_if_present(json.get("suffix"))
-        + count_json_if_present(json.get("replies"))
+    one_if_present_else_zero(json.get("prefix"))
+        + one_if_present_else_zero(json.get("branches"))
+        + one_if_present_else_zero(json.get("suffix"))
+        + one_if_present_else_zero(json.get("replies"))
 }
 
 #[tactic(auto, using(crate::proofs::Views::views))]
-fn count_object_members(json: &Json<'_>) -> usize
+fn count_json_members_or_zero(json: &Json<'_>) -> usize
     ensures { result ≡ spec.size_of (value_view json.now) }
 {
     match json {
@@ -100,14 +100,14 @@ fn count_object_members(json: &Json<'_>) -> usize
 }
 
 /// Whether it is an object with the parts of an item, each once, and nothing else.
-fn is_json_item(json: &Json<'_>) -> bool
+fn has_outer_shape_of_json_item(json: &Json<'_>) -> bool
     ensures { result ≡ spec.is_item (value_view json.now) }
 {
-    count_object_members(json) == count_item_parts(json)
+    count_json_members_or_zero(json) == count_known_json_item_members(json)
         && is_absent_or_json_array(json.get("prefix"))
-        && is_json_branches_member(json.get("branches"))
+        && is_present_json_array_of_arrays(json.get("branches"))
         && is_absent_or_json_array(json.get("suffix"))
-        && is_json_replies_member(json.get("replies"))
+        && is_absent_or_json_array_of_arrays(json.get("replies"))
 }
 
 /// A word, and the commands of a part, if it is there.
@@ -123,13 +123,13 @@ fn headed_commands_form_from_json(
         Some(part) => headed(
             alloc,
             word,
-            command_forms_from_json(alloc, model, json_array_items(part))?,
+            command_forms_from_json(alloc, model, json_array_items_or_empty(part))?,
         ),
         None => headed(alloc, word, Items::new(alloc)),
     }
 }
 
-fn each_branch_form_from_json(
+fn unheaded_branch_forms_from_json(
     alloc: Global,
     model: &Source,
     branches: &[Json<'_>],
@@ -138,7 +138,11 @@ fn each_branch_form_from_json(
 {
     let mut forms = Items::new(alloc);
     for branch in branches {
-        forms.push(Form::Node(command_forms_from_json(alloc, model, json_array_items(branch))?))?;
+        forms.push(Form::Node(command_forms_from_json(
+            alloc,
+            model,
+            json_array_items_or_empty(branch),
+        )?))?;
     }
     Ok(forms)
 }
@@ -158,7 +162,7 @@ fn left_and_right_forms_from_json(
         "right",
         rest_after_first_json(branches).first(),
     )?;
-    let mut forms = list_of(alloc, left)?;
+    let mut forms = list_of_one_form(alloc, left)?;
     forms.push(right)?;
     Ok(forms)
 }
@@ -171,13 +175,13 @@ fn headed_branches_form_from_json(
 ) -> Result<Items<Form>, AllocError>
     ensures { IfOk result (λ forms. forms ≡ spec.many_forms model.now (items_view branches.now)) }
 {
-    let forms = each_branch_form_from_json(alloc, model, branches)?;
-    list_of(alloc, headed(alloc, "branches", forms)?)
+    let forms = unheaded_branch_forms_from_json(alloc, model, branches)?;
+    list_of_one_form(alloc, headed(alloc, "branches", forms)?)
 }
 
 /// Two branches as `left` and `right`, or another number of branches.
 #[tactic(auto, using(crate::proofs::Views::views))]
-fn branches_forms_from_json(
+fn branch_forms_by_count_from_json(
     alloc: Global,
     model: &Source,
     branches: &[Json<'_>],
@@ -191,7 +195,7 @@ fn branches_forms_from_json(
     }
 }
 
-fn suffix_form_from_json(
+fn suffix_form_from_json_if_present(
     alloc: Global,
     model: &Source,
     suffix: Option<&Json<'_>>,
@@ -199,7 +203,7 @@ fn suffix_form_from_json(
     ensures { IfOk result (λ forms. forms ≡ spec.suffix_forms model.now (shown suffix.entry)) }
 {
     match suffix {
-        Some(json) => list_of(
+        Some(json) => list_of_one_form(
             alloc,
             headed_commands_form_from_json(alloc, model, "suffix", Some(json))?,
         ),
@@ -208,7 +212,7 @@ fn suffix_form_from_json(
 }
 
 /// The lists of replies to the parts of an item.
-fn item_reply_lists_from_json(
+fn item_reply_list_forms_from_json(
     alloc: Global,
     model: &Source,
     json: &Json<'_>,
@@ -218,15 +222,15 @@ fn item_reply_lists_from_json(
         forms ≡ spec.lists_in model.now (value_view json.now) (items_view lists.now)) }
 {
     match json.get("branches") {
-        Some(branches) => reply_lists_of_parts_from_json(
+        Some(branches) => reply_list_forms_of_parts_from_json(
             alloc,
             model,
             json.get("prefix"),
-            json_array_items(branches),
+            json_array_items_or_empty(branches),
             json.get("suffix"),
             lists,
         ),
-        None => reply_lists_of_parts_from_json(
+        None => reply_list_forms_of_parts_from_json(
             alloc,
             model,
             json.get("prefix"),
@@ -237,7 +241,7 @@ fn item_reply_lists_from_json(
     }
 }
 
-fn replies_form_from_json(
+fn replies_form_from_json_if_present(
     alloc: Global,
     model: &Source,
     json: &Json<'_>,
@@ -248,15 +252,20 @@ fn replies_form_from_json(
 {
     match replies {
         Some(lists) => {
-            let lists = item_reply_lists_from_json(alloc, model, json, json_array_items(lists))?;
-            list_of(alloc, headed(alloc, "replies", lists)?)
+            let lists = item_reply_list_forms_from_json(
+                alloc,
+                model,
+                json,
+                json_array_items_or_empty(lists),
+            )?;
+            list_of_one_form(alloc, headed(alloc, "replies", lists)?)
         }
         None => Ok(Items::new(alloc)),
     }
 }
 
 /// The branches of an item.
-fn item_branches_forms_from_json(
+fn item_branch_forms_from_json(
     alloc: Global,
     model: &Source,
     branches: Option<&Json<'_>>,
@@ -264,8 +273,12 @@ fn item_branches_forms_from_json(
     ensures { IfOk result (λ forms. forms ≡ spec.branches_forms model.now (spec.part (shown branches.entry))) }
 {
     match branches {
-        Some(branches) => branches_forms_from_json(alloc, model, json_array_items(branches)),
-        None => branches_forms_from_json(alloc, model, &[]),
+        Some(branches) => branch_forms_by_count_from_json(
+            alloc,
+            model,
+            json_array_items_or_empty(branches),
+        ),
+        None => branch_forms_by_count_from_json(alloc, model, &[]),
     }
 }
 
@@ -278,10 +291,10 @@ fn case_or_run_form_from_json(
     ensures { IfOk result (λ form. form ≡ spec.whole_form model.now (value_view json.now)) }
 {
     let prefix = headed_commands_form_from_json(alloc, model, "prefix", json.get("prefix"))?;
-    let mut forms = list_of(alloc, prefix)?;
-    forms.append(item_branches_forms_from_json(alloc, model, json.get("branches"))?)?;
-    let mut more = suffix_form_from_json(alloc, model, json.get("suffix"))?;
-    more.append(replies_form_from_json(alloc, model, json, json.get("replies"))?)?;
+    let mut forms = list_of_one_form(alloc, prefix)?;
+    forms.append(item_branch_forms_from_json(alloc, model, json.get("branches"))?)?;
+    let mut more = suffix_form_from_json_if_present(alloc, model, json.get("suffix"))?;
+    more.append(replies_form_from_json_if_present(alloc, model, json, json.get("replies"))?)?;
     forms.append(more)?;
     match json.get("replies") {
         Some(_) => headed(alloc, "run", forms),
@@ -290,15 +303,15 @@ fn case_or_run_form_from_json(
 }
 
 /// The tree of an item. It is `()` if the JSON has another form than an item, or if the tree has no spelling.
-pub fn item_form_from_json(
+pub fn item_form_or_empty_from_json(
     alloc: Global,
     model: &Source,
     json: &Json<'_>,
 ) -> Result<Form, AllocError>
     ensures { IfOk result (λ form. form ≡ spec.item_form model.now (value_view json.now)) }
 {
-    if is_json_item(json) {
-        Ok(form_or_if_unspellable(
+    if has_outer_shape_of_json_item(json) {
+        Ok(form_or_other_if_unspellable(
             case_or_run_form_from_json(alloc, model, json)?,
             empty_node_form(alloc),
         ))

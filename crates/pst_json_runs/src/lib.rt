@@ -15,8 +15,8 @@ mod spelled;
 mod write;
 mod writing;
 
-pub use items::item_form_from_json;
-pub use lines::{is_json_item_line, json_line_tree, replace_json_lines_by_trees};
+pub use items::item_form_or_empty_from_json;
+pub use lines::{begins_like_json_item, json_line_tree_or_empty, replace_json_lines_by_trees};
 pub use reading::value_from_json;
 pub use write::{prove_json_is_read_back, run_json_line};
 pub use writing::{write_json_value, write_json_values_and_end};

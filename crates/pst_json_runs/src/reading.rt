@@ -18,7 +18,7 @@ fn copy_to_text(alloc: Global, text: &str) -> Result<Text, AllocError>
 }
 
 /// The key of a type that a name spells, or else the name itself.
-fn map_key_from_json_name(alloc: Global, kind: KeyTy, name: &str) -> Result<Key, AllocError>
+fn map_key_or_text_from_json_name(alloc: Global, kind: KeyTy, name: &str) -> Result<Key, AllocError>
     ensures { IfOk result (λ key. key ≡ spec.key_in kind name.now) }
 {
     let name = copy_to_text(alloc, name)?;
@@ -53,7 +53,7 @@ fn sorted_place_of_map_key(key: &Key, keys: &[Key]) -> usize
 }
 
 /// The types of the parts, if a tuple of `count` parts is wanted.
-fn tuple_item_types<'a>(ty: Option<&'a Ty>, count: usize) -> Option<&'a [Ty]>
+fn item_types_if_tuple_has_count<'a>(ty: Option<&'a Ty>, count: usize) -> Option<&'a [Ty]>
     ensures { option_copied result ≡ spec.tuple_types (option_copied ty.entry) count }
 {
     match ty {
@@ -73,7 +73,7 @@ fn list_item_type<'a>(ty: Option<&'a Ty>) -> Option<&'a Ty>
 }
 
 /// The types of keys and values, if a map is wanted, or else keys that are texts.
-fn map_key_and_value_types<'a>(ty: Option<&'a Ty>) -> (KeyTy, Option<&'a Ty>)
+fn map_types_or_text_keys<'a>(ty: Option<&'a Ty>) -> (KeyTy, Option<&'a Ty>)
     ensures { (result.0, option_copied result.1) ≡ spec.map_types (option_copied ty.entry) }
 {
     match ty {
@@ -113,7 +113,7 @@ fn is_reference_type(ty: Option<&Ty>) -> bool
 }
 
 /// Variable `number`, if it has at most four digits.
-fn variable_with_number(number: i64) -> Option<Value>
+fn variable_if_number_in_range(number: i64) -> Option<Value>
     ensures { result ≡ spec.variable_of number }
 {
     match u32::try_from(number) {
@@ -128,7 +128,7 @@ fn variable_from_json_number(alloc: Global, json: &Json<'_>) -> Result<Option<Va
 {
     match json {
         Json::Number(digits) => match integer_of(&copy_to_text(alloc, digits)?) {
-            Some(number) => Ok(variable_with_number(number)),
+            Some(number) => Ok(variable_if_number_in_range(number)),
             None => Ok(None),
         },
         _ => Ok(None),
@@ -171,7 +171,7 @@ pub fn value_from_json(
         Json::Number(digits) => integer_from_digits(alloc, digits),
         Json::String(text) => Ok(Some(Value::Text(copy_to_text(alloc, text)?))),
         Json::Array(parts) => {
-            let types = tuple_item_types(ty, parts.len());
+            let types = item_types_if_tuple_has_count(ty, parts.len());
             let first = types.unwrap_or(&[]);
             match values_from_json(alloc, first, list_item_type(ty), parts.as_slice())? {
                 Some(values) => Ok(Some(tuple_or_list(types, values))),
@@ -185,7 +185,7 @@ pub fn value_from_json(
             if members.len() > MOST_KEYS {
                 return Ok(None);
             }
-            let (kind, ty) = map_key_and_value_types(ty);
+            let (kind, ty) = map_types_or_text_keys(ty);
             map_from_json_members(alloc, kind, ty, members.as_slice())
         }
     }
@@ -237,7 +237,7 @@ fn map_from_json_members(
         let Some(value) = value_from_json(alloc, ty, json)? else {
             return Ok(None);
         };
-        let key = map_key_from_json_name(alloc, kind, name)?;
+        let key = map_key_or_text_from_json_name(alloc, kind, name)?;
         let place = sorted_place_of_map_key(&key, keys.as_slice());
         keys.insert(place, key)?;
         values.insert(place, value)?;

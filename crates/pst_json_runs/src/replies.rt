@@ -5,7 +5,9 @@ ghost use Rattle.json.specs.Value.{items_view, members_view, value_view};
 ghost use Rattle.pst_json_runs.specs.Shown.{shown};
 ghost use Rattle.pst_json_runs.specs.Trees as spec;
 
-use crate::commands::{find_operation_in_model, json_array_items, value_form_or_if_unspellable};
+use crate::commands::{
+    find_operation_in_model, json_array_items_or_empty, value_form_or_other_or_empty,
+};
 use crate::reading::value_from_json;
 use json::Value as Json;
 use pst_model::Source;
@@ -17,7 +19,7 @@ use std::alloc::{AllocError, Global};
 fn result_type_of_json_command<'a>(model: &'a Source, command: &Json<'_>) -> Option<&'a Ty>
     ensures { option_copied result ≡ spec.result_of model.now (value_view command.now) }
 {
-    let (first, _) = json_array_items(command).split_first()?;
+    let (first, _) = json_array_items_or_empty(command).split_first()?;
     match first {
         Json::String(name) => match find_operation_in_model(model, name) {
             Some(operation) => Some(&operation.result),
@@ -28,7 +30,7 @@ fn result_type_of_json_command<'a>(model: &'a Source, command: &Json<'_>) -> Opt
 }
 
 /// The outcome that a member says, if it is `null`.
-fn outcome_of_json_member(name: &str, json: &Json<'_>) -> Option<&'static str>
+fn outcome_of_null_json_member(name: &str, json: &Json<'_>) -> Option<&'static str>
     ensures { option_map (λ word. word.now) result ≡ spec.outcome_at name.now (value_view json.now) }
 {
     match json {
@@ -52,14 +54,14 @@ fn outcome_of_only_json_member(members: &[(&str, Json<'_>)]) -> Option<&'static 
         Some(_) => None,
         None => {
             let (name, json) = member;
-            outcome_of_json_member(name, json)
+            outcome_of_null_json_member(name, json)
         }
     }
 }
 
 /// What became of a call that answered no value.
 #[tactic(auto, using(crate::proofs::Views::views))]
-fn outcome_from_json(json: &Json<'_>) -> Option<&'static str>
+fn outcome_without_value_from_json(json: &Json<'_>) -> Option<&'static str>
     ensures { option_map (λ word. word.now) result ≡ spec.outcome_of (value_view json.now) }
 {
     match json {
@@ -70,14 +72,18 @@ fn outcome_from_json(json: &Json<'_>) -> Option<&'static str>
 }
 
 /// The tree of a reply to a command whose result has type `ty`.
-fn reply_form_from_json(alloc: Global, ty: Option<&Ty>, json: &Json<'_>) -> Result<Form, AllocError>
+fn reply_form_or_misfit_from_json(
+    alloc: Global,
+    ty: Option<&Ty>,
+    json: &Json<'_>,
+) -> Result<Form, AllocError>
     ensures { IfOk result (λ form. form ≡ spec.reply_form (option_copied ty.entry) (value_view json.now)) }
 {
-    if let Some(outcome) = outcome_from_json(json) {
+    if let Some(outcome) = outcome_without_value_from_json(json) {
         return word(alloc, outcome);
     }
     let value = value_from_json(alloc, ty, json)?;
-    value_form_or_if_unspellable(alloc, word(alloc, "misfit")?, value)
+    value_form_or_other_or_empty(alloc, word(alloc, "misfit")?, value)
 }
 
 /// The tree of a reply to a command, if there is one for it.
@@ -91,12 +97,12 @@ fn reply_form_for_json_command(
         form ≡ spec.reply_to model.now (shown command.entry) (value_view reply.now)) }
 {
     match command {
-        Some(command) => reply_form_from_json(
+        Some(command) => reply_form_or_misfit_from_json(
             alloc,
             result_type_of_json_command(model, command),
             reply,
         ),
-        None => reply_form_from_json(alloc, None, reply),
+        None => reply_form_or_misfit_from_json(alloc, None, reply),
     }
 }
 
@@ -142,16 +148,16 @@ fn reply_list_form_from_json(
         Some(commands) => reply_forms_from_json(
             alloc,
             model,
-            json_array_items(commands),
-            json_array_items(list),
+            json_array_items_or_empty(commands),
+            json_array_items_or_empty(list),
         )?,
-        None => reply_forms_from_json(alloc, model, &[], json_array_items(list))?,
+        None => reply_forms_from_json(alloc, model, &[], json_array_items_or_empty(list))?,
     };
     Ok(Form::Node(replies))
 }
 
 /// The tree of the list of replies to the next branch, or to the suffix if there is no more branch.
-fn branch_or_suffix_replies_from_json(
+fn first_branch_or_suffix_replies_from_json(
     alloc: Global,
     model: &Source,
     branches: &[Json<'_>],
@@ -181,14 +187,14 @@ fn branch_and_suffix_replies_from_json(
     let mut forms = Items::new(alloc);
     let mut rest = branches;
     for list in lists {
-        forms.push(branch_or_suffix_replies_from_json(alloc, model, rest, suffix, list)?)?;
+        forms.push(first_branch_or_suffix_replies_from_json(alloc, model, rest, suffix, list)?)?;
         rest = rest_after_first_json(rest);
     }
     Ok(forms)
 }
 
 /// The trees of the lists of replies: to the prefix, to each branch, and to the suffix.
-pub fn reply_lists_of_parts_from_json(
+pub fn reply_list_forms_of_parts_from_json(
     alloc: Global,
     model: &Source,
     prefix: Option<&Json<'_>>,

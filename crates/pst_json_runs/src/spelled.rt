@@ -36,7 +36,7 @@ fn is_printable(byte: u8) -> bool
     32 <= byte && byte <= 126
 }
 
-fn is_text(bytes: &[u8]) -> bool
+fn has_only_printable_bytes(bytes: &[u8]) -> bool
     ensures { result ≡ list_all is_printable bytes.now }
 {
     bytes.iter().all(|byte| is_printable(*byte))
@@ -50,7 +50,7 @@ fn has_spelling_within_levels(form: &Form, room: usize) -> bool
 {
     match form {
         Form::Word(bytes) => is_word(bytes.as_bytes()),
-        Form::Text(bytes) => is_text(bytes.as_bytes()),
+        Form::Text(bytes) => has_only_printable_bytes(bytes.as_bytes()),
         Form::Node(parts) => {
             if room == 0 {
                 return false;
@@ -80,7 +80,7 @@ fn has_spelling(form: &Form) -> bool
 }
 
 /// The form, or the other one if it has no spelling.
-pub fn form_or_if_unspellable(form: Form, other: Form) -> Form
+pub fn form_or_other_if_unspellable(form: Form, other: Form) -> Form
     ensures { result ≡ spec.if_spelled form other }
 {
     if has_spelling(&form) { form } else { other }

@@ -57,7 +57,7 @@ fn write_json_commands_and_end(
 }
 
 /// Writes the commands of a part.
-fn write_json_part(
+fn write_json_command_array(
     writer: &mut Writer<Global>,
     model: &Source,
     commands: &[Command],
@@ -71,7 +71,7 @@ fn write_json_part(
 }
 
 /// Writes branches, and the end of their array.
-fn write_json_parts_and_end(
+fn write_json_branch_arrays_and_end(
     writer: &mut Writer<Global>,
     model: &Source,
     branches: &[Items<Command>],
@@ -81,7 +81,7 @@ fn write_json_parts_and_end(
     ensures before { writer.new.before ≡ writer.old.before }
 {
     for branch in branches {
-        write_json_part(writer, model, branch.as_slice())?;
+        write_json_command_array(writer, model, branch.as_slice())?;
     }
     writer.end_array()
 }
@@ -96,11 +96,14 @@ fn write_json_branches(
     ensures before { writer.new.before ≡ writer.old.before }
 {
     writer.begin_array()?;
-    write_json_parts_and_end(writer, model, branches)
+    write_json_branch_arrays_and_end(writer, model, branches)
 }
 
 /// Writes `{"failed":null}` and the like.
-fn write_json_outcome(writer: &mut Writer<Global>, word: &str) -> Result<(), AllocError>
+fn write_json_outcome_without_value(
+    writer: &mut Writer<Global>,
+    word: &str,
+) -> Result<(), AllocError>
     ensures ok { OnOk result (writer.new.tokens
         ≡ writer.old.tokens ++ json_tokens (spec.outcome_json word.now)) }
     ensures before { writer.new.before ≡ writer.old.before }
@@ -118,8 +121,8 @@ fn write_json_reply(writer: &mut Writer<Global>, reply: &Reply) -> Result<(), Al
 {
     match reply {
         Reply::Value(value) => write_json_value(writer, value),
-        Reply::Misfit => write_json_outcome(writer, "misfit"),
-        Reply::Failed => write_json_outcome(writer, "failed"),
+        Reply::Misfit => write_json_outcome_without_value(writer, "misfit"),
+        Reply::Failed => write_json_outcome_without_value(writer, "failed"),
         Reply::NotRun => writer.null(),
     }
 }
@@ -150,7 +153,7 @@ fn write_json_reply_list(writer: &mut Writer<Global>, replies: &[Reply]) -> Resu
 }
 
 /// Writes the lists of the branches and of the suffix, if it has commands, and the end of the lists.
-fn write_json_later_reply_lists(
+fn write_json_branch_suffix_replies_and_end(
     writer: &mut Writer<Global>,
     branches: &[Items<Reply>],
     suffix: &[Reply],
@@ -176,7 +179,7 @@ fn write_json_reply_lists(writer: &mut Writer<Global>, history: &History) -> Res
 {
     writer.begin_array()?;
     write_json_reply_list(writer, history.prefix.as_slice())?;
-    write_json_later_reply_lists(
+    write_json_branch_suffix_replies_and_end(
         writer,
         history.branches.as_slice(),
         history.suffix.as_slice(),
@@ -200,7 +203,7 @@ fn write_json_replies_and_item_end(
 }
 
 /// Writes the suffix, if it has commands, and what comes after it.
-fn write_json_suffix_and_replies(
+fn write_json_suffix_replies_and_item_end(
     writer: &mut Writer<Global>,
     model: &Source,
     suffix: &[Command],
@@ -212,7 +215,7 @@ fn write_json_suffix_and_replies(
 {
     if !suffix.is_empty() {
         writer.key("suffix")?;
-        write_json_part(writer, model, suffix)?;
+        write_json_command_array(writer, model, suffix)?;
     }
     write_json_replies_and_item_end(writer, history)
 }
@@ -230,10 +233,10 @@ fn write_json_item(
 {
     writer.begin_object()?;
     writer.key("prefix")?;
-    write_json_part(writer, model, case.prefix.as_slice())?;
+    write_json_command_array(writer, model, case.prefix.as_slice())?;
     writer.key("branches")?;
     write_json_branches(writer, model, case.branches.as_slice())?;
-    write_json_suffix_and_replies(writer, model, case.suffix.as_slice(), history)
+    write_json_suffix_replies_and_item_end(writer, model, case.suffix.as_slice(), history)
 }
 
 /// The JSON of a run spells its tree, so it is read back as an equal run. This only learns what the types of the model and of

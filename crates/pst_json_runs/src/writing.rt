@@ -10,7 +10,7 @@ use pst_value::{Key, Value};
 use std::alloc::{AllocError, Global};
 
 /// Writes the name of a key's member.
-fn write_json_map_key(writer: &mut Writer<Global>, key: &Key) -> Result<(), AllocError>
+fn write_json_map_key_as_name(writer: &mut Writer<Global>, key: &Key) -> Result<(), AllocError>
     ensures ok { OnOk result (writer.new.tokens
         ≡ writer.old.tokens ++ member_key (key_name key.now) ∷ []) }
     ensures before { writer.new.before ≡ writer.old.before }
@@ -53,7 +53,7 @@ pub fn write_json_value(writer: &mut Writer<Global>, value: &Value) -> Result<()
         }
         Value::Map(keys, values) => {
             writer.begin_object()?;
-            write_json_members_and_end(writer, keys.get().as_slice(), values.get().as_slice())
+            write_json_map_members_and_end(writer, keys.get().as_slice(), values.get().as_slice())
         }
         Value::Var(number) => write_json_variable(writer, *number),
         Value::Ref(_, part) => write_json_value(writer, part.get()),
@@ -78,7 +78,7 @@ pub fn write_json_values_and_end(
 
 /// Writes the members of an object and its end. Keys and values without a partner are left out.
 #[cycle(put)]
-fn write_json_members_and_end(
+fn write_json_map_members_and_end(
     writer: &mut Writer<Global>,
     keys: &[Key],
     values: &[Value],
@@ -92,7 +92,7 @@ fn write_json_members_and_end(
         let Some((key, others)) = rest.split_first() else {
             return writer.end_object();
         };
-        write_json_map_key(writer, key)?;
+        write_json_map_key_as_name(writer, key)?;
         write_json_value(writer, value)?;
         rest = others;
     }

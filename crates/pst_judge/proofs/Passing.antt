@@ -32,8 +32,8 @@ use Rattle.pst_model.specs.declared.model.Source.{Source}
 use Rattle.pst_operators.specs.Operators.{bool}
 use Rattle.pst_operators.specs.Outcome.{Outcome, Gives, Faults, Stuck}
 use Rattle.pst_eval.proofs.Bounding.{greater_first, greater_second}
-use Rattle.pst_eval.specs.Reach.{greater, extent, NoFault, Reaches, UpTo, Within}
-use Rattle.pst_eval.specs.declared.reach.Names.{Names, Frame, With'}
+use Rattle.pst_eval.specs.Reach.{greater, reach_of_value, NoFault, Reaches, UpTo, Within}
+use Rattle.pst_eval.specs.declared.reach.NamesWithReach.{NamesWithReach, Frame, With'}
 use Rattle.pst_value.specs.declared.ty.Ty.{Ty}
 use Rattle.pst_value.specs.declared.value.Value.{Value, out-roll-Value}
 use Rattle.pst_value.specs.declared.value.Value.TheOpen.{Value-F}
@@ -41,7 +41,7 @@ use Rattle.pst_value.specs.declared.value.Value.TheOpen.{Value-F}
 -- ---- what the code finds
 
 -- from a state that reaches so far at most, by the names that the expressions see
-pub step_reaches : (m : Source) (o : Op) (e : NumberedCommand) (reach after : ℕ) (inner : Names)
+pub step_reaches : (m : Source) (o : Op) (e : NumberedCommand) (reach after : ℕ) (inner : NamesWithReach)
     → operation_of m.items e.op ≡ Some o → o.pre ≡ expr.Bool true → Reaches inner o.next after
     → ((s : Value) → UpTo reach s → Within inner ((name_r, e.variable) ∷ (name_s, s) ∷ frame o.params e.args))
     → StepReaches m e reach after
@@ -57,7 +57,7 @@ step_reaches m o e reach after inner is pre next within = λ s up.
     )
 
 -- the names that `next` sees (where they stand in memory does not matter)
-abbrev seen : (far reach : ℕ) → Bor (List Param) → Bor (List Value) → Names
+abbrev seen : (far reach : ℕ) → Bor (List Param) → Bor (List Value) → NamesWithReach
 seen far reach ps vs =
     let behind : Bor (Unit {0}) = record { ref_ptr = ps.ref_ptr; now = tt } in
     let r : Bor (List ℕ) = record { ref_ptr = ps.ref_ptr; now = name_r } in
@@ -65,7 +65,7 @@ seen far reach ps vs =
     With' r far behind (With' s reach behind (Frame ps vs))
 
 pub some_step : (m : Source) (o : Op) (e : NumberedCommand) (reach far : ℕ) (ps : Bor (List Param)) (vs : Bor (List Value)) (found : Option ℕ)
-    → operation_of m.items e.op ≡ Some o → o.pre ≡ expr.Bool true → ps.now ≡ o.params → vs.now ≡ e.args → far ≡ extent e.variable
+    → operation_of m.items e.op ≡ Some o → o.pre ≡ expr.Bool true → ps.now ≡ o.params → vs.now ≡ e.args → far ≡ reach_of_value e.variable
     → IfSome found (Reaches (seen far reach ps vs) o.next) → IfSome found (StepReaches m e reach)
 some_step m o e reach far ps vs None is pre ps_is vs_is far_is h = tt
 some_step m o e reach far ps vs (Some next) is pre ps_is vs_is far_is h =
@@ -178,18 +178,18 @@ module _ (m : Source) (well : WellModel m) (vars : List Ty) where
         ∙ ap (λ t. after (step_outcome t) (λ next. run (symbolic_outcome m branches) (last_commands m suffix) (one_more done b) next word)) p.1
         ∙ ap later (words_pass word (one_more done b) steps total.0 p.0 (IsAt-more lengths done b at left) (Completes-tail lengths done b (IsAt-branch lengths done b at left) word c) (omega (arith, few, more)) total.3 p.2 p.3)
 
-    pub all_pass : (steps : ℕ) (s : Value) → sum lengths + length suffix ≤ steps → TotalFor m branches suffix steps (extent s) → Stands s
+    pub all_pass : (steps : ℕ) (s : Value) → sum lengths + length suffix ≤ steps → TotalFor m branches suffix steps (reach_of_value s) → Stands s
         → IsEveryAnswer (symbolic_outcome m branches) (last_commands m suffix) lengths s All
     all_pass steps s few total stands = λ v k.
-        words_pass v (none_done lengths) steps (extent s) s (IsAt-none lengths) (merge lengths v k) (omega (arith, few)) total stands (omega arith)
+        words_pass v (none_done lengths) steps (reach_of_value s) s (IsAt-none lengths) (merge lengths v k) (omega (arith, few)) total stands (omega arith)
 
 -- of a case
 pub case_passes : (m n : Source) (c : Case) (lengths : List ℕ) (branches : List (List NumberedCommand)) (suffix : List NumberedCommand) (steps : ℕ) (s : Value)
     → n ≡ m → WellModel n → lengths ≡ branch_lengths c → BranchesFit m c branches → CommandsFit m (result_types m c) suffix → IsSymbolicState m c s
-    → sum lengths + length suffix ≤ steps → TotalFor n branches suffix steps (extent s)
+    → sum lengths + length suffix ≤ steps → TotalFor n branches suffix steps (reach_of_value s)
     → IsEveryAnswer (symbolic_outcome m branches) (last_commands m suffix) lengths s All
 case_passes m n c lengths branches suffix steps s is well long each last stands few total =
     let W : Source → Type 0 = λ k. WellModel k in
-    let T : Source → Type 0 = λ k. TotalFor k branches suffix steps (extent s) in
+    let T : Source → Type 0 = λ k. TotalFor k branches suffix steps (reach_of_value s) in
     let E : List ℕ → Type 0 = λ ls. (b i : ℕ) → i < slice_index ls b → (e : NumberedCommand) × (command_at branches b i ≡ Some e) × CommandFits m (result_types m c) e in
     all_pass m (subst W is well) (result_types m c) lengths branches suffix last (subst E (sym long) each) steps s few (subst T is total) stands

@@ -19,7 +19,7 @@ fn encode_number(number: u64, bytes: &mut Vec<u8>) -> Result<(), AllocError>
 }
 
 /// Adds a tag and a number.
-fn encode_tagged(tag: u8, number: u64, bytes: &mut Vec<u8>) -> Result<(), AllocError>
+fn encode_tagged_number(tag: u8, number: u64, bytes: &mut Vec<u8>) -> Result<(), AllocError>
     ensures { OnOk result (bytes.new.items ≡ bytes.old.items ++ tag ∷ number_code number) }
 {
     bytes.push(tag)?;
@@ -31,7 +31,7 @@ fn encode_integer(number: i64, bytes: &mut Vec<u8>) -> Result<(), AllocError>
     ensures { OnOk result (bytes.new.items ≡ bytes.old.items ++ code_of_int number) }
 {
     let tag = if number < 0 { 1 } else { 0 };
-    encode_tagged(tag, number.unsigned_abs(), bytes)
+    encode_tagged_number(tag, number.unsigned_abs(), bytes)
 }
 
 /// Appends the code of a bool.
@@ -46,7 +46,7 @@ fn encode_bool(truth: bool, bytes: &mut Vec<u8>) -> Result<(), AllocError>
 fn encode_text(text: &[u8], bytes: &mut Vec<u8>) -> Result<(), AllocError>
     ensures { OnOk result (bytes.new.items ≡ bytes.old.items ++ code_of_text text.now) }
 {
-    encode_tagged(4, text.len() as u64, bytes)?;
+    encode_tagged_number(4, text.len() as u64, bytes)?;
     bytes.extend_from_slice(text)
 }
 
@@ -120,13 +120,13 @@ pub(crate) fn encode_value(value: &Value, bytes: &mut Vec<u8>) -> Result<(), All
             values.get().as_slice(),
             bytes,
         ),
-        Value::Var(number) => encode_tagged(8, *number as u64, bytes),
+        Value::Var(number) => encode_tagged_number(8, *number as u64, bytes),
         Value::Ref(number, inner) => {
-            encode_tagged(9, *number as u64, bytes)?;
+            encode_tagged_number(9, *number as u64, bytes)?;
             encode_value(inner.get(), bytes)
         }
         Value::Call(op, args) => {
-            encode_tagged(10, *op as u64, bytes)?;
+            encode_tagged_number(10, *op as u64, bytes)?;
             encode_values(args.as_slice(), bytes)
         }
     }

@@ -9,7 +9,7 @@ ghost use Rattle.pst_value.specs.declared.ty.Ty.{Ty};
 ghost use Rattle.pst_value.specs.declared.value.Value.{Value};
 
 use crate::events::Event;
-use crate::replay::bool_in;
+use crate::replay::bool_of_value;
 use pst_eval::Callbacks;
 use pst_value::{Fault, Value};
 use std::alloc::{AllocError, Global};
@@ -20,7 +20,7 @@ pub trait Condition {
     ghost asked: { Self → Source → Value → Event → Outcome (Value × ℕ) };
 
     /// Whether the condition is true of the event on the state before it, or the fault that it ends in.
-    fn ask<C: Callbacks>(
+    fn evaluate_on_event<C: Callbacks>(
         &self,
         callbacks: &C,
         alloc: Global,
@@ -42,7 +42,7 @@ impl Condition for Postconditions {
 
     ghost asked = { λ p m s e. post_asked m s e };
 
-    fn ask<C: Callbacks>(
+    fn evaluate_on_event<C: Callbacks>(
         &self,
         callbacks: &C,
         alloc: Global,
@@ -50,7 +50,7 @@ impl Condition for Postconditions {
         event: &Event,
     ) -> Result<Result<bool, Fault>, AllocError> {
         match callbacks.post(alloc, event.op, state, event.args.as_slice(), &event.result)? {
-            Ok((answer, _)) => Ok(Ok(bool_in(&answer))),
+            Ok((answer, _)) => Ok(Ok(bool_of_value(&answer))),
             Err(fault) => Ok(Err(fault)),
         }
     }

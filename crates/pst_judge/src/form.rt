@@ -39,7 +39,7 @@ fn int_of(value: &Value) -> Option<i64>
 }
 
 /// The bytes of a short code, and zeros after them.
-fn padded(code: &[u8]) -> [u8; SHORT]
+fn pad_code_with_zeros(code: &[u8]) -> [u8; SHORT]
     requires { length code.now ≤ 24 }
     ensures { result ≡ padded code.now }
 {
@@ -49,12 +49,12 @@ fn padded(code: &[u8]) -> [u8; SHORT]
 }
 
 /// The form of bytes that are the code of a value.
-fn form_of_code(alloc: Global, code: &[u8]) -> Result<PackedForm, AllocError>
+fn short_or_long_form_of_code(alloc: Global, code: &[u8]) -> Result<PackedForm, AllocError>
     ensures none { IfOk result (λ form. int_in form ≡ None) }
     ensures all { IfOk result (λ form. bytes_in form ≡ padded code.now) }
 {
     if code.len() <= SHORT {
-        return Ok(PackedForm::Short(padded(code)));
+        return Ok(PackedForm::Short(pad_code_with_zeros(code)));
     }
     Ok(PackedForm::Long(Vec::from_slice(alloc, code)?))
 }
@@ -67,18 +67,18 @@ impl PackedForm {
     {
         match int_of(value) {
             Some(n) => Ok(PackedForm::Int(n)),
-            None => PackedForm::coded(alloc, value),
+            None => PackedForm::from_non_integer_value(alloc, value),
         }
     }
 
     /// The form of a value that is no integer.
-    fn coded(alloc: Global, value: &Value) -> Result<PackedForm, AllocError>
+    fn from_non_integer_value(alloc: Global, value: &Value) -> Result<PackedForm, AllocError>
         requires { int_of value.now ≡ None }
         ensures { IfOk result (λ form. IsForm form value.now) }
     {
         let mut draft = Vec::with_capacity(alloc, DRAFT)?;
         encode_value(value, &mut draft)?;
-        form_of_code(alloc, draft.as_slice())
+        short_or_long_form_of_code(alloc, draft.as_slice())
     }
 
     /// The integer, if it is one.

@@ -8,7 +8,7 @@ ghost use Rattle.pst_judge.specs.Running.{BranchesFit, EventsFit};
 ghost use Rattle.pst_judge.specs.Verdict.{first_broken};
 
 use crate::condition::Condition;
-use crate::events::{Event, append_events_of_part, branches_events, number_after};
+use crate::events::{Event, append_events_while_replies_are_values, branches_events, number_after};
 use crate::search::Branches;
 use pst_case::{History, Shaped};
 use pst_eval::Callbacks;
@@ -27,12 +27,12 @@ pub fn events_of_prefix(
 {
     let commands = shaped.case().prefix.as_slice();
     let replies = history.prefix.as_slice();
-    append_events_of_part(alloc, results, 1, commands, replies, Items::new(alloc))
+    append_events_while_replies_are_values(alloc, results, 1, commands, replies, Items::new(alloc))
 }
 
 /// The events of the branches and of the suffix of a history whose replies are all values, with the condition to check
 /// on them. It returns several lists, with a clause on each.
-pub fn branches_with_events<'a, C: Callbacks, A: Condition>(
+pub fn branch_and_suffix_events<'a, C: Callbacks, A: Condition>(
     callbacks: &'a C,
     condition: &'a A,
     alloc: Global,
@@ -58,7 +58,7 @@ pub fn branches_with_events<'a, C: Callbacks, A: Condition>(
     let number = number_after(number, commands);
     let commands = case.suffix.as_slice();
     let replies = history.suffix.as_slice();
-    let suffix = append_events_of_part(
+    let suffix = append_events_while_replies_are_values(
         alloc,
         results,
         number,

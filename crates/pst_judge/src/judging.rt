@@ -13,7 +13,7 @@ ghost use Rattle.pst_judge.specs.Verdict.{first_broken, IsVerdict, IsVerdictAski
 ghost use Rattle.pst_model.specs.WellTyped.{WellModel};
 
 use crate::condition::{Condition, Postconditions};
-use crate::history_events::{branches_with_events, events_of_prefix};
+use crate::history_events::{branch_and_suffix_events, events_of_prefix};
 use crate::running::{EventsEnd, run_events};
 use crate::search::search;
 use crate::verdicts::Verdict;
@@ -24,13 +24,13 @@ use pst_value::Value;
 use std::alloc::{AllocError, Global};
 
 /// The command number of the first missing result. The first of `results` has the number `number`.
-fn first_broken_reply(number: u32, results: &[Option<Value>]) -> Option<u32>
+fn number_of_first_missing_result(number: u32, results: &[Option<Value>]) -> Option<u32>
     requires { number + length results.now < 2 ^ 32 }
     ensures { result ≡ first_broken number results.now }
 {
     let (first, rest) = results.split_first()?;
     match first {
-        Some(_) => first_broken_reply(number + 1, rest),
+        Some(_) => number_of_first_missing_result(number + 1, rest),
         None => Some(number),
     }
 }
@@ -55,13 +55,13 @@ fn verdict_after_prefix<C: Callbacks, A: Condition>(
         (λ r. IsVerdictOfSearch m (A.asked condition.now m) (branch_events c history.now)
         (suffix_events c history.now) (branch_lengths c) (length c.prefix) state.now r.0 r.1.items) }
 {
-    let branches = branches_with_events(callbacks, condition, alloc, shaped, history, results)?;
+    let branches = branch_and_suffix_events(callbacks, condition, alloc, shaped, history, results)?;
     search(alloc, &branches, state, shaped.case().prefix.len())
 }
 
 /// The verdict on a history whose replies are all values. If no interleaving explains it, also returns the branch
 /// numbers of the true events in the interleaving that the verdict rests on.
-fn verdict_on_values<C: Callbacks, A: Condition>(
+fn verdict_on_all_value_replies<C: Callbacks, A: Condition>(
     callbacks: &C,
     condition: &A,
     alloc: Global,
@@ -106,7 +106,7 @@ fn verdict_on_values<C: Callbacks, A: Condition>(
 
 /// The verdict on a history of a case, with `condition` checked on each event. If the verdict rests on an interleaving
 /// that does not explain the history, also returns the branch numbers of its true events.
-fn verdict_with_true_branches<C: Callbacks, A: Condition>(
+fn verdict_with_true_event_branches<C: Callbacks, A: Condition>(
     callbacks: &C,
     condition: &A,
     alloc: Global,
@@ -122,9 +122,9 @@ fn verdict_with_true_branches<C: Callbacks, A: Condition>(
 {
     let _case = shaped.case();
     let results = history.recorded(alloc)?;
-    match first_broken_reply(1, results.as_slice()) {
+    match number_of_first_missing_result(1, results.as_slice()) {
         Some(number) => Ok((Verdict::Broken(number), Vec::new(alloc))),
-        None => verdict_on_values(
+        None => verdict_on_all_value_replies(
             callbacks,
             condition,
             alloc,
@@ -150,7 +150,9 @@ pub fn verdict_with_condition<C: Callbacks, A: Condition>(
     ensures { let m = C.model callbacks.now in IfOk result
         (IsVerdictAsking m (A.asked condition.now m) shaped.now.case history.now) }
 {
-    let (verdict, _) = verdict_with_true_branches(callbacks, condition, alloc, shaped, history)?;
+    let (verdict, _) = verdict_with_true_event_branches(
+        callbacks, condition, alloc, shaped, history,
+    )?;
     Ok(verdict)
 }
 
@@ -209,7 +211,7 @@ pub fn verdict_with_interleaving<C: Callbacks>(
     ensures interleaving { IfOk result
         (λ r. IsInterleaving (C.model callbacks.now) shaped.now.case history.now r.0 r.1.items) }
 {
-    let (verdict, letters) = verdict_with_true_branches(
+    let (verdict, letters) = verdict_with_true_event_branches(
         callbacks,
         &Postconditions,
         alloc,

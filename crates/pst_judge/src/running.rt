@@ -7,7 +7,7 @@ ghost use Rattle.pst_value.specs.declared.ty.Ty.{Ty};
 
 use crate::condition::Condition;
 use crate::events::Event;
-use crate::replay::event_outcome;
+use crate::replay::replay_event;
 use pst_eval::{Callbacks, FaultPlace};
 use pst_grid::{Ending, StepOutcome, StopReason};
 use pst_value::Value;
@@ -43,7 +43,7 @@ pub fn run_events<C: Callbacks, A: Condition>(
     let Some((event, events)) = split_first(events) else {
         return Ok(EventsEnd::Through(state));
     };
-    match event_outcome(callbacks, condition, alloc, &state, event)? {
+    match replay_event(callbacks, condition, alloc, &state, event)? {
         StepOutcome::Stop(why) => Ok(EventsEnd::Stopped(0, why)),
         StepOutcome::Next(next) => match run_events(callbacks, condition, alloc, next, events)? {
             EventsEnd::Through(last) => Ok(EventsEnd::Through(last)),

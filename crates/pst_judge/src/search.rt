@@ -8,7 +8,7 @@ ghost use Rattle.pst_judge.specs.Running.{BranchesFit, EventsFit, IsRealState};
 use crate::condition::Condition;
 use crate::events::Event;
 use crate::packed::Packed;
-use crate::replay::event_outcome;
+use crate::replay::replay_event;
 use crate::running::run_suffix;
 use crate::verdicts::Verdict;
 use pst_case::{Command, Shaped};
@@ -73,7 +73,7 @@ impl<'a, C: Callbacks, A: Condition> Steps for Branches<'a, C, A> {
         let Some(event) = events.get(index) else {
             unreachable!()
         };
-        event_outcome(self.callbacks, self.condition, alloc, state, event)
+        replay_event(self.callbacks, self.condition, alloc, state, event)
     }
 
     fn run_rest(
@@ -115,7 +115,10 @@ impl<'a, C: Callbacks, A: Condition> Steps for Branches<'a, C, A> {
 }
 
 /// How many commands each branch has.
-pub fn lengths_of(alloc: Global, branches: &[Items<Command>]) -> Result<Vec<usize>, AllocError>
+pub fn count_commands_in_each_branch(
+    alloc: Global,
+    branches: &[Items<Command>],
+) -> Result<Vec<usize>, AllocError>
     ensures { IfOk result (λ lengths. lengths.items ≡ map length branches.now) }
 {
     let mut lengths = Vec::new(alloc);
@@ -127,7 +130,11 @@ pub fn lengths_of(alloc: Global, branches: &[Items<Command>]) -> Result<Vec<usiz
 
 /// The verdict for the answer of a search, with `prefix` events before the branches. If the interleaving in the answer
 /// is not true to its end, also returns the branch numbers of its true events.
-fn verdict_of(alloc: Global, prefix: usize, answer: SomeAnswer<FaultPlace>) -> (Verdict, Vec<usize>)
+fn verdict_of_search_answer(
+    alloc: Global,
+    prefix: usize,
+    answer: SomeAnswer<FaultPlace>,
+) -> (Verdict, Vec<usize>)
     requires { OnNothing answer (λ far. prefix + far < 2 ^ 64) }
     ensures verdict { result.0 ≡ verdict_of prefix answer }
     ensures letters { result.1.items ≡ letters_of answer }
@@ -170,7 +177,7 @@ pub fn search<C: Callbacks, A: Condition>(
         (λ r. IsVerdictOfSearch m (A.asked b.condition.now m) b.events b.suffix
         (branch_lengths b.shaped.now.case) prefix state.now r.0 r.1.items) }
 {
-    let lengths = lengths_of(alloc, branches.shaped.case().branches.as_slice())?;
+    let lengths = count_commands_in_each_branch(alloc, branches.shaped.case().branches.as_slice())?;
     let (answer, _) = some(alloc, branches, lengths.as_slice(), state)?;
-    Ok(verdict_of(alloc, prefix, answer))
+    Ok(verdict_of_search_answer(alloc, prefix, answer))
 }

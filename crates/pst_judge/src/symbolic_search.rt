@@ -7,11 +7,11 @@ ghost use Rattle.pst_grid.specs.declared.answer.EveryAnswer.TheVariants.{All};
 ghost use Rattle.pst_judge.specs.Symbolic.{symbolic_outcome};
 ghost use Rattle.pst_judge.specs.SymbolicSearch.{BranchesFit, CommandsFit, FailsByReason, IsReasonOf, IsReasonOfSearch, IsSymbolicState, in_turn, last_commands, reason_of, reason_of_answer};
 
-use crate::events::{split_commands, split_parts};
+use crate::events::{split_first_branch_commands, split_first_command};
 use crate::numbered::NumberedCommand;
 use crate::packed::Packed;
-use crate::search::lengths_of;
-use crate::symbolic::{SymbolicFailure, run_suffix, symbolic_step};
+use crate::search::count_commands_in_each_branch;
+use crate::symbolic::{SymbolicFailure, run_command_symbolically, run_suffix};
 use crate::total::form_shows_no_command_fails;
 use crate::why::Why;
 use pst_case::{Command, Shaped};
@@ -72,7 +72,7 @@ impl<'a, C: Callbacks> Steps for SymbolicBranches<'a, C> {
         let Some(command) = commands.get(index) else {
             unreachable!()
         };
-        match symbolic_step(self.callbacks, alloc, state, command)? {
+        match run_command_symbolically(self.callbacks, alloc, state, command)? {
             Ok(next) => Ok(StepOutcome::Next(next)),
             Err(failing) => Ok(StepOutcome::Stop(pst_grid::StopReason::Fault(failing))),
         }
@@ -180,7 +180,7 @@ fn form_shows_no_interleaving_fails<C: Callbacks>(
 
 /// Searches the interleavings of the branches for the first that fails, from the symbolic state after the prefix and
 /// with the suffix after each. It needs no search where the form of the model shows that none fails.
-pub fn search_failing<C: Callbacks>(
+pub fn find_first_failing_interleaving<C: Callbacks>(
     alloc: Global,
     branches: &SymbolicBranches<'_, C>,
     state: &Value,
@@ -197,7 +197,7 @@ pub fn search_failing<C: Callbacks>(
         (IsReasonOfSearch (C.model b.callbacks.now) b.commands b.suffix (branch_lengths b.shaped.now.case)
         state.now) }
 {
-    let lengths = lengths_of(alloc, branches.shaped.case().branches.as_slice())?;
+    let lengths = count_commands_in_each_branch(alloc, branches.shaped.case().branches.as_slice())?;
     if form_shows_no_interleaving_fails(branches, lengths.as_slice(), state) {
         return Ok(None);
     }
@@ -213,7 +213,7 @@ fn append_branch_for_each_command(
 ) -> Result<Vec<usize>, AllocError>
     ensures { IfOk result (λ all. all.items ≡ word.items ++ replicate (length commands.now) branch) }
 {
-    let Some((_, commands)) = split_commands(commands) else {
+    let Some((_, commands)) = split_first_command(commands) else {
         return Ok(word);
     };
     word.push(branch)?;
@@ -221,7 +221,7 @@ fn append_branch_for_each_command(
 }
 
 /// Appends the numbers of the branches to `word` in turn, from `branch` on, each once for each of its commands.
-fn append_branch_by_branch(
+fn append_branch_numbers_in_turn(
     branch: usize,
     branches: &[Items<Command>],
     word: Vec<usize>,
@@ -229,15 +229,15 @@ fn append_branch_by_branch(
     requires { branch + length branches.now < 2 ^ 64 }
     ensures { IfOk result (λ all. all.items ≡ word.items ++ in_turn branch (map length branches.now)) }
 {
-    let Some((first, rest)) = split_parts(branches) else {
+    let Some((first, rest)) = split_first_branch_commands(branches) else {
         return Ok(word);
     };
     let word = append_branch_for_each_command(branch, first.as_slice(), word)?;
-    append_branch_by_branch(branch + 1, rest, word)
+    append_branch_numbers_in_turn(branch + 1, rest, word)
 }
 
 /// The reason if all interleavings fail alike: the failure of the first interleaving.
-pub fn first_interleaving_reason(
+pub fn reason_with_first_interleaving(
     alloc: Global,
     shaped: &Shaped,
     failing: SymbolicFailure,
@@ -246,6 +246,6 @@ pub fn first_interleaving_reason(
     ensures { IfOk result (IsReasonOf failing (in_turn 0 (branch_lengths shaped.now.case))) }
 {
     let branches = shaped.case().branches.as_slice();
-    let word = append_branch_by_branch(0, branches, Vec::new(alloc))?;
+    let word = append_branch_numbers_in_turn(0, branches, Vec::new(alloc))?;
     Ok(Some(reason_of(failing, word)))
 }

@@ -10,8 +10,10 @@ ghost use Rattle.pst_model.specs.WellTyped.{WellModel};
 
 use crate::events::number_after;
 use crate::numbered::{append_numbered_commands, branches_with_numbers};
-use crate::symbolic::{fault_in, run_symbolic};
-use crate::symbolic_search::{SymbolicBranches, first_interleaving_reason, search_failing};
+use crate::symbolic::{callback_fault_at_command, run_commands_symbolically};
+use crate::symbolic_search::{
+    SymbolicBranches, find_first_failing_interleaving, reason_with_first_interleaving,
+};
 use crate::validated::Valid;
 use crate::why::Why;
 use pst_case::Shaped;
@@ -20,7 +22,7 @@ use pst_value::{Items, Value};
 use std::alloc::{AllocError, Global};
 
 /// Why the case is not valid, from the symbolic state after the prefix; `None` if it is valid.
-fn why_not_after_prefix<C: Callbacks>(
+fn why_invalid_after_prefix<C: Callbacks>(
     callbacks: &C,
     alloc: Global,
     shaped: &Shaped,
@@ -49,7 +51,7 @@ fn why_not_after_prefix<C: Callbacks>(
         commands,
         suffix,
     };
-    search_failing(alloc, &symbolic, state)
+    find_first_failing_interleaving(alloc, &symbolic, state)
 }
 
 /// Why the case is not valid by the model of the callbacks; `None` if it is valid.
@@ -65,14 +67,18 @@ pub fn why_invalid<C: Callbacks>(
     let (state, _) = match callbacks.init(alloc)? {
         Ok(opening) => opening,
         Err(fault) => {
-            return first_interleaving_reason(alloc, shaped, fault_in(0, Callback::Init, fault));
+            return reason_with_first_interleaving(
+                alloc,
+                shaped,
+                callback_fault_at_command(0, Callback::Init, fault),
+            );
         }
     };
     let commands = case.prefix.as_slice();
     let prefix = append_numbered_commands(alloc, 1, commands, Items::new(alloc))?;
-    match run_symbolic(callbacks, alloc, state, prefix.as_slice())? {
-        Ok(last) => why_not_after_prefix(callbacks, alloc, shaped, &last),
-        Err(failing) => first_interleaving_reason(alloc, shaped, failing),
+    match run_commands_symbolically(callbacks, alloc, state, prefix.as_slice())? {
+        Ok(last) => why_invalid_after_prefix(callbacks, alloc, shaped, &last),
+        Err(failing) => reason_with_first_interleaving(alloc, shaped, failing),
     }
 }
 

@@ -58,7 +58,7 @@ module _ {R : Type 0} where
   pub draw_sound : (s s' : Inside R) (r : ℕ) → IsSound s → s.held ≡ None → r < s.token.table_id.slots → ((x : ℕ) → 0 < times x s.token.me.0.draws → x < r)
       → s'.token.table_id ≡ s.token.table_id → s'.token.me.0 ≡ with_draw s.token.me.0 r → s'.token.me.1 ≡ (r, Undrawn) ∷ s.token.me.1
       → s'.draws.items ≡ s.draws.items ++ r ∷ [] → vec_capacity s'.draws ≡ vec_capacity s.draws → s'.held ≡ Some r → s.marked ≡ false → s'.marked ≡ s.marked → IsSound s'
-  draw_sound s s' r h idle lt b table view slots items capacity held unmarked marked =
+  draw_sound s s' r h idle lt b table view slots items capacity held unmarked_seats marked =
       let below = subst (λ (l : List ℕ). (x : ℕ) → 0 < times x l → x < r) h.draws b in record {
         draws = ap (λ (v : View R). v.draws) view ∙ (ap (λ (l : List ℕ). l ++ r ∷ []) h.draws ∙ sym items);
         part = ap (λ (v : View R). v.parts) view ∙ h.part;
@@ -67,7 +67,7 @@ module _ {R : Type 0} where
         order = items ∙ (ap (λ (l : List ℕ). l ++ r ∷ []) (h.order ∙ (ap (λ o. keys s.token.me.0.ends ++ held_list o) idle ∙ append-nil (keys s.token.me.0.ends)))
             ∙ (ap (λ (l : List (ℕ × Entry R)). keys l ++ r ∷ []) (sym (ap (λ (v : View R). v.ends) view)) ∙ ap (λ o. keys s'.token.me.0.ends ++ held_list o) (sym held)));
         rising = subst (Rising 0) (sym items) (rising-snoc 0 r s.draws.items (omega arith) h.rising below);
-        rests = λ m. absurd (true≢false (sym m ∙ (marked ∙ unmarked)));
+        rests = λ m. absurd (true≢false (sym m ∙ (marked ∙ unmarked_seats)));
         room = let a = h.room in let t = ap (λ i. i.slots) table in omega (arith, a, t, capacity);
       }
 

@@ -1,14 +1,14 @@
 -- Lists of calls, as events, and what the book answers to them.
 use Rattle.std.specs.Prelude.{ℕ, ◌<◌, ⊤, List, [], ◌∷◌, length}
 use Rattle.pst_ledger.specs.declared.entry.Entry.TheVariants.{Done, Lost}
-use Rattle.pst_ledger.specs.declared.calls.Call.{Call}
-use Rattle.pst_ledger.specs.declared.calls.Call.TheVariants as call
-use Rattle.pst_ledger.specs.declared.calls.Reply.{Reply}
-use Rattle.pst_ledger.specs.declared.calls.Reply.TheVariants as reply
+use Rattle.pst_ledger.specs.declared.calls.BookCall.{BookCall}
+use Rattle.pst_ledger.specs.declared.calls.BookCall.TheVariants as call
+use Rattle.pst_ledger.specs.declared.calls.BookReply.{BookReply}
+use Rattle.pst_ledger.specs.declared.calls.BookReply.TheVariants as reply
 use Rattle.pst_ledger.specs.Core.{Core, Event, claim, finish, Answer, granted, none_left, accepted, refused, after, HoldsNone}
 
 -- the answer that a reply stands for
-abbrev pub answer_of : Reply → Answer
+abbrev pub answer_of : BookReply → Answer
 answer_of (reply.Granted k) = granted k
 answer_of reply.NoneLeft = none_left
 answer_of reply.Accepted = accepted
@@ -16,7 +16,7 @@ answer_of (reply.Refused f) = refused f
 
 module _ {R : Type 0} where
   -- the event that a call is, where this is a record's number
-  abbrev pub event_of : (R → ℕ) → Call R → Event R
+  abbrev pub event_of : (R → ℕ) → BookCall R → Event R
   event_of number (call.Claim s) = claim s
   event_of number (call.Deposit s r) = finish s (number r) (Done r)
   event_of number (call.Lose s k c) = finish s k (Lost c)

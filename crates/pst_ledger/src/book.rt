@@ -47,7 +47,7 @@ fn free_spots<R: Numbered>(alloc: Global, trials: u64) -> Result<Vec<Spot<R>>, A
 }
 
 /// So many seats, none of them marked.
-fn unmarked(alloc: Global, seats: u64) -> Result<Vec<bool>, AllocError>
+fn unmarked_seats(alloc: Global, seats: u64) -> Result<Vec<bool>, AllocError>
     ensures { IfOk result (λ v. v.items ≡ replicate seats false) }
 {
     let mut marks = Vec::with_capacity(alloc, seats as usize)?;
@@ -58,7 +58,10 @@ fn unmarked(alloc: Global, seats: u64) -> Result<Vec<bool>, AllocError>
 }
 
 /// Moves the entries that the spots show into an empty list that has room for them.
-fn into_entries<R: Numbered>(spots: Vec<Spot<R>>, mut room: Vec<Entry<R>>) -> Vec<Entry<R>>
+fn move_spots_into_entries<R: Numbered>(
+    spots: Vec<Spot<R>>,
+    mut room: Vec<Entry<R>>,
+) -> Vec<Entry<R>>
     requires { (room.items ≡ []) × (vec_len spots ≤ vec_capacity room) }
     ensures { result.items ≡ map shown spots.items }
 {
@@ -78,7 +81,7 @@ impl<R: Numbered> Book<R> {
     {
         let room = Vec::with_capacity(alloc, trials as usize)?;
         let spots = free_spots(alloc, trials)?;
-        let marks = unmarked(alloc, seats)?;
+        let marks = unmarked_seats(alloc, seats)?;
         Ok(Book {
             spots,
             next: 0,
@@ -106,7 +109,7 @@ impl<R: Numbered> Book<R> {
     }
 
     /// Why the seat may not end the number, if it may not.
-    fn refusal(&self, seat: u64, number: u64) -> Option<LedgerFault>
+    fn why_ending_is_refused(&self, seat: u64, number: u64) -> Option<LedgerFault>
         ensures { MatchOption result
             (slice_get self.now.spots number ≡ Some (Holder seat))
             (λ f. (e : Entry R) → after self.now (finish seat number e) ≡ (self.now, refused f)) }
@@ -138,7 +141,7 @@ impl<R: Numbered> Book<R> {
             ≡ (self.new, refused e.1)) }
     {
         let number = deposited.number();
-        match self.refusal(seat, number) {
+        match self.why_ending_is_refused(seat, number) {
             None => {
                 self.finish(seat, number, Entry::Done(deposited));
                 Ok(())
@@ -155,7 +158,7 @@ impl<R: Numbered> Book<R> {
             (λ _. after self.old (finish seat number (Lost cause)) ≡ (self.new, accepted))
             (λ f. after self.old (finish seat number (Lost cause)) ≡ (self.new, refused f)) }
     {
-        match self.refusal(seat, number) {
+        match self.why_ending_is_refused(seat, number) {
             None => {
                 self.finish(seat, number, Entry::Lost(cause));
                 Ok(())
@@ -175,7 +178,7 @@ impl<R: Numbered> Book<R> {
             room,
         } = self;
         Closed {
-            entries: into_entries(spots, room),
+            entries: move_spots_into_entries(spots, room),
         }
     }
 }

@@ -9,7 +9,7 @@ use crate::fault::LedgerFault;
 
 /// A call that a seat makes on a book.
 #[derive(Drop)]
-pub enum Call<R> {
+pub enum BookCall<R> {
     /// The seat claims a number.
     Claim(u64),
     /// The seat deposits a record.
@@ -20,7 +20,7 @@ pub enum Call<R> {
 
 /// The reply of a book to a call.
 #[derive(Debug, PartialEq, Eq, Drop)]
-pub enum Reply {
+pub enum BookReply {
     /// This number was claimed.
     Granted(u64),
     /// No number was free.
@@ -32,29 +32,33 @@ pub enum Reply {
 }
 
 /// Makes one call. A record that is refused is dropped.
-fn make_call<R: Numbered>(book: &mut Book<R>, call: Call<R>) -> Reply
+fn make_call<R: Numbered>(book: &mut Book<R>, call: BookCall<R>) -> BookReply
     requires allowed { IsAllowed book.old (event_of R.number_of call) }
     ensures { after book.old (event_of R.number_of call) ≡ (book.new, answer_of result) }
 {
     match call {
-        Call::Claim(seat) => match book.claim(seat) {
-            Some(number) => Reply::Granted(number),
-            None => Reply::NoneLeft,
+        BookCall::Claim(seat) => match book.claim(seat) {
+            Some(number) => BookReply::Granted(number),
+            None => BookReply::NoneLeft,
         },
-        Call::Deposit(seat, record) => match book.deposit(seat, record) {
-            Ok(()) => Reply::Accepted,
-            Err((_, fault)) => Reply::Refused(fault),
+        BookCall::Deposit(seat, record) => match book.deposit(seat, record) {
+            Ok(()) => BookReply::Accepted,
+            Err((_, fault)) => BookReply::Refused(fault),
         },
-        Call::Lose(seat, number, cause) => match book.lose(seat, number, cause) {
-            Ok(()) => Reply::Accepted,
-            Err(fault) => Reply::Refused(fault),
+        BookCall::Lose(seat, number, cause) => match book.lose(seat, number, cause) {
+            Ok(()) => BookReply::Accepted,
+            Err(fault) => BookReply::Refused(fault),
         },
     }
 }
 
 /// Makes the calls in their order, and adds a reply for each. Whatever the calls, the replies and the book
 /// after them are those of the definition. A record that is refused is dropped.
-pub fn replay<R: Numbered>(book: &mut Book<R>, calls: Vec<Call<R>>, replies: &mut Vec<Reply>)
+pub fn make_calls_and_add_replies<R: Numbered>(
+    book: &mut Book<R>,
+    calls: Vec<BookCall<R>>,
+    replies: &mut Vec<BookReply>,
+)
     requires allowed { AllAllowed book.old (map (event_of R.number_of) calls.items) }
     requires room { vec_len replies.old + vec_len calls ≤ vec_capacity replies.old }
     ensures book { book.new ≡ run book.old (map (event_of R.number_of) calls.items) }

@@ -31,7 +31,7 @@ impl<R> Closed<R> {
 }
 
 /// Moves what the slots of a closed table hold into an empty list that has room for it.
-pub(crate) fn take_entries<R>(
+pub(crate) fn take_entries_and_free_table<R>(
     mut closed: atomic_table::Closed<Entry<R>, Global>,
     mut room: Vec<Entry<R>>,
 ) -> Vec<Entry<R>>

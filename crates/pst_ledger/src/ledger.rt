@@ -6,7 +6,7 @@ ghost use Rattle.pst_ledger.specs.Rule.{fresh};
 ghost use Rattle.pst_ledger.specs.Seats.{new_seat, drawing, marking, ending, HasEnded, HasRefused, OfTable, InOrder, AllInOrder};
 ghost use Rattle.pst_ledger.specs.declared.entry.Entry.TheVariants.{Undrawn, Done, Lost};
 
-use crate::closed::{Closed, take_entries};
+use crate::closed::{Closed, take_entries_and_free_table};
 use crate::entry::{Cause, Entry, Numbered};
 use crate::fault::{CloseFault, LedgerFault};
 use crate::rule::{Draw, Enter, Finish, Numbers, OnePart, Together, View};
@@ -49,7 +49,7 @@ fn undrawn<R: Numbered>(alloc: Global, trials: u64) -> Result<Vec<Entry<R>>, All
 }
 
 /// Cuts the first token of a table into one for each seat.
-fn split_token<R: Numbered>(
+fn split_token_into_seats<R: Numbered>(
     alloc: Global,
     shared: &Shared<Entry<R>, View<R>, u64, Numbers>,
     mut first: atomic_table::Seat<Entry<R>, View<R>>,
@@ -94,7 +94,7 @@ impl<R: Numbered> Ledger<R> {
         let Ok((table, first)) = Table::new(alloc, &[0], slots, &seats) else {
             return Err(AllocError);
         };
-        let list = split_token(alloc, &table.shared, first, trials, seats)?;
+        let list = split_token_into_seats(alloc, &table.shared, first, trials, seats)?;
         Ok((Ledger { table, seats, room }, list))
     }
 
@@ -147,7 +147,7 @@ impl<R: Numbered> Ledger<R> {
             (λ e. (e.0 ≡ deposited) × HasRefused seat.old seat.new (R.number_of deposited) e.1) }
     {
         let number = deposited.number();
-        match seat.refusal(number) {
+        match seat.why_ending_is_refused(number) {
             None => {
                 self.finish(seat, number, Entry::Done(deposited));
                 Ok(())
@@ -165,7 +165,7 @@ impl<R: Numbered> Ledger<R> {
             (λ _. HasEnded seat.old seat.new number (Lost cause))
             (λ f. HasRefused seat.old seat.new number f) }
     {
-        match seat.refusal(number) {
+        match seat.why_ending_is_refused(number) {
             None => {
                 self.finish(seat, number, Entry::Lost(cause));
                 Ok(())
@@ -176,7 +176,7 @@ impl<R: Numbered> Ledger<R> {
 
     /// The seat's token, which knows all that the seat knows. A number that the seat holds is given back as
     /// `Held`.
-    fn settle_seat(&self, seat: Seat<R>) -> atomic_table::Seat<Entry<R>, View<R>>
+    fn settle_seat_into_token(&self, seat: Seat<R>) -> atomic_table::Seat<Entry<R>, View<R>>
         requires own { seat.table ≡ self.now.table }
         ensures place { result.table_id ≡ self.now.table }
         ensures view { (result.me.0 ≡ settled seat) × (result.me.1 ≡ []) }
@@ -200,7 +200,10 @@ impl<R: Numbered> Ledger<R> {
     }
 
     /// One token that knows all that the seats know.
-    fn join_seats(&self, mut seats: Vec<Seat<R>>) -> atomic_table::Seat<Entry<R>, View<R>>
+    fn join_seats_into_token(
+        &self,
+        mut seats: Vec<Seat<R>>,
+    ) -> atomic_table::Seat<Entry<R>, View<R>>
         requires own { OfTable self.now.table seats.items }
         ensures place { result.table_id ≡ self.now.table }
         ensures view { result.me.0 ≡ gathered seats.items }
@@ -208,7 +211,7 @@ impl<R: Numbered> Ledger<R> {
     {
         let (_, mut all) = self.table.shared.load_new_seat::<Enter>(0);
         while let Some(seat) = seats.pop() {
-            let token = self.settle_seat(seat);
+            let token = self.settle_seat_into_token(seat);
             self.table.shared.join_seat::<Together>(&mut all, token);
         }
         all
@@ -229,7 +232,7 @@ impl<R: Numbered> Ledger<R> {
         if seats.len() as u64 != self.seats {
             return Err((self, seats, CloseFault::MissingSeat));
         }
-        let all = self.join_seats(seats);
+        let all = self.join_seats_into_token(seats);
         let Ledger {
             table,
             seats: _,
@@ -237,7 +240,7 @@ impl<R: Numbered> Ledger<R> {
         } = self;
         let closed = table.close_with(all);
         Ok(Closed {
-            entries: take_entries(closed, room),
+            entries: take_entries_and_free_table(closed, room),
         })
     }
 }

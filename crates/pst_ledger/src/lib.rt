@@ -14,7 +14,7 @@ mod seat;
 mod spot;
 
 pub use book::Book;
-pub use calls::{Call, Reply, replay};
+pub use calls::{BookCall, BookReply, make_calls_and_add_replies};
 pub use closed::Closed;
 pub use entry::{Cause, Entry, Numbered};
 pub use fault::{CloseFault, LedgerFault};

@@ -39,7 +39,7 @@ impl<R> Seat<R> {
     }
 
     /// Why the seat may not end the number, if it may not.
-    pub(crate) fn refusal(&self, number: u64) -> Option<LedgerFault>
+    pub(crate) fn why_ending_is_refused(&self, number: u64) -> Option<LedgerFault>
         ensures { MatchOption result
             (self.now.held ≡ Some number)
             (λ f. (self.now.held ≢ Some number) × IsRefused self.now number f) }

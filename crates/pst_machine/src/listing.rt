@@ -22,7 +22,7 @@ fn joined_text(first: Items<u8>, second: Items<u8>) -> Bytes
 }
 
 /// A space, followed by the text.
-fn spaced(alloc: Global, text: Items<u8>) -> Bytes
+fn text_after_space(alloc: Global, text: Items<u8>) -> Bytes
     ensures { IfOk result (λ spaced. spaced ≡ 32 ∷ text) }
 {
     joined_text(Items::from_slice(alloc, b" ")?, text)
@@ -50,18 +50,18 @@ fn numbers_text(alloc: Global, numbers: &[u64]) -> Bytes
 {
     let mut text = Items::new(alloc);
     for number in numbers {
-        text.append(spaced(alloc, number_text(alloc, *number)?)?)?;
+        text.append(text_after_space(alloc, number_text(alloc, *number)?)?)?;
     }
     Ok(text)
 }
 
 /// Registers, each after a space.
-fn registers_text(alloc: Global, registers: &[u32]) -> Bytes
+fn spaced_registers_text(alloc: Global, registers: &[u32]) -> Bytes
     ensures { IfOk result (λ text. text ≡ spec.numbers_text registers.now) }
 {
     let mut text = Items::new(alloc);
     for register in registers {
-        text.append(spaced(alloc, number_text(alloc, u64::from(*register))?)?)?;
+        text.append(text_after_space(alloc, number_text(alloc, u64::from(*register))?)?)?;
     }
     Ok(text)
 }
@@ -82,12 +82,12 @@ fn name_and_registers_text(alloc: Global, name: &[u8], registers: &[u32]) -> Byt
 {
     joined_text(
         Items::from_slice(alloc, name)?,
-        registers_text(alloc, registers)?,
+        spaced_registers_text(alloc, registers)?,
     )
 }
 
 /// The name of the instruction of an operator.
-fn unary_name(operator: Unary) -> &'static [u8]
+fn unary_instruction_name(operator: Unary) -> &'static [u8]
     ensures { result.now ≡ spec.unary_name operator }
 {
     match operator {
@@ -99,7 +99,7 @@ fn unary_name(operator: Unary) -> &'static [u8]
 }
 
 /// The name of the instruction of an operator.
-fn binary_name(operator: Binary) -> &'static [u8]
+fn binary_instruction_name(operator: Binary) -> &'static [u8]
     ensures { result.now ≡ spec.binary_name operator }
 {
     match operator {
@@ -137,7 +137,7 @@ fn bytes_text(alloc: Global, bytes: &[u8]) -> Bytes
 }
 
 /// A text in quotes.
-fn quoted(alloc: Global, bytes: &[u8]) -> Bytes
+fn quoted_text(alloc: Global, bytes: &[u8]) -> Bytes
     ensures { IfOk result (λ text. text ≡ 34 ∷ spec.bytes_text bytes.now ++ 34 ∷ []) }
 {
     let mut text = joined_text(Items::from_slice(alloc, b"\"")?, bytes_text(alloc, bytes)?)?;
@@ -146,7 +146,7 @@ fn quoted(alloc: Global, bytes: &[u8]) -> Bytes
 }
 
 /// A name with its bracket, the parts, and the closing bracket.
-fn bracketed(alloc: Global, name: &[u8], parts: Items<u8>) -> Bytes
+fn join_and_close_bracket(alloc: Global, name: &[u8], parts: Items<u8>) -> Bytes
     ensures { IfOk result (λ text. text ≡ name.now ++ parts ++ 41 ∷ []) }
 {
     let mut text = joined_text(Items::from_slice(alloc, name)?, parts)?;
@@ -182,17 +182,17 @@ fn key_text(alloc: Global, key: &Key) -> Bytes
     match key {
         Key::Int(number) => integer_text(alloc, *number),
         Key::Bool(truth) => truth_text(alloc, *truth),
-        Key::Text(text) => quoted(alloc, text.as_bytes()),
+        Key::Text(text) => quoted_text(alloc, text.as_bytes()),
     }
 }
 
 /// A space, and a key with the text of its value in brackets.
-fn entry_text(alloc: Global, key: &Key, part: &[u8]) -> Bytes
+fn map_entry_text(alloc: Global, key: &Key, part: &[u8]) -> Bytes
     ensures { IfOk result (λ text. text ≡ spec.entry_text key.now part.now) }
 {
-    let value = spaced(alloc, Items::from_slice(alloc, part)?)?;
+    let value = text_after_space(alloc, Items::from_slice(alloc, part)?)?;
     let entry = joined_text(key_text(alloc, key)?, value)?;
-    spaced(alloc, bracketed(alloc, b"(", entry)?)
+    text_after_space(alloc, join_and_close_bracket(alloc, b"(", entry)?)
 }
 
 /// Keys and the texts of their values.
@@ -201,7 +201,7 @@ fn entries_text(alloc: Global, keys: &[Key], parts: &[Items<u8>]) -> Bytes
 {
     let mut text = Items::new(alloc);
     for (key, part) in keys.iter().zip(parts) {
-        text.append(entry_text(alloc, key, part.as_slice())?)?;
+        text.append(map_entry_text(alloc, key, part.as_slice())?)?;
     }
     Ok(text)
 }
@@ -215,17 +215,29 @@ fn value_text(alloc: Global, value: &Value) -> Bytes
     match value {
         Value::Int(number) => integer_text(alloc, *number),
         Value::Bool(truth) => truth_text(alloc, *truth),
-        Value::Text(text) => quoted(alloc, text.as_bytes()),
-        Value::Tuple(parts) => bracketed(alloc, b"(tuple", parts_text(alloc, parts.as_slice())?),
-        Value::List(parts) => bracketed(alloc, b"(list", parts_text(alloc, parts.as_slice())?),
+        Value::Text(text) => quoted_text(alloc, text.as_bytes()),
+        Value::Tuple(parts) => join_and_close_bracket(
+            alloc,
+            b"(tuple",
+            parts_text(alloc, parts.as_slice())?,
+        ),
+        Value::List(parts) => join_and_close_bracket(
+            alloc,
+            b"(list",
+            parts_text(alloc, parts.as_slice())?,
+        ),
         Value::Map(keys, parts) => {
-            let parts = each_text(alloc, parts.get().as_slice())?;
+            let parts = text_of_each_value(alloc, parts.get().as_slice())?;
             let entries = entries_text(alloc, keys.get().as_slice(), parts.as_slice())?;
-            bracketed(alloc, b"(map", entries)
+            join_and_close_bracket(alloc, b"(map", entries)
         }
         Value::Var(number) => variable_text(alloc, *number),
         Value::Ref(_, part) => value_text(alloc, part.get()),
-        Value::Call(_, parts) => bracketed(alloc, b"(call", parts_text(alloc, parts.as_slice())?),
+        Value::Call(_, parts) => join_and_close_bracket(
+            alloc,
+            b"(call",
+            parts_text(alloc, parts.as_slice())?,
+        ),
     }
 }
 
@@ -236,14 +248,14 @@ fn parts_text(alloc: Global, parts: &[Value]) -> Bytes
 {
     let mut text = Items::new(alloc);
     for part in parts {
-        text.append(spaced(alloc, value_text(alloc, part)?)?)?;
+        text.append(text_after_space(alloc, value_text(alloc, part)?)?)?;
     }
     Ok(text)
 }
 
 /// The texts of values.
 #[cycle(value_text)]
-fn each_text(alloc: Global, parts: &[Value]) -> Result<Items<Items<u8>>, AllocError>
+fn text_of_each_value(alloc: Global, parts: &[Value]) -> Result<Items<Items<u8>>, AllocError>
     ensures { IfOk result (λ texts. texts ≡ map spec.value_text parts.now) }
 {
     let mut texts = Items::new(alloc);
@@ -254,22 +266,22 @@ fn each_text(alloc: Global, parts: &[Value]) -> Result<Items<Items<u8>>, AllocEr
 }
 
 /// A name, numbers, and then registers.
-fn row_text(alloc: Global, name: &[u8], numbers: &[u64], registers: &[u32]) -> Bytes
+fn operands_text(alloc: Global, name: &[u8], numbers: &[u64], registers: &[u32]) -> Bytes
     ensures { IfOk result (λ text. text ≡
         spec.words_text name.now numbers.now ++ spec.numbers_text registers.now) }
 {
     joined_text(
         name_and_numbers_text(alloc, name, numbers)?,
-        registers_text(alloc, registers)?,
+        spaced_registers_text(alloc, registers)?,
     )
 }
 
 /// A constant.
-fn constant_text(alloc: Global, register: u32, value: &Value) -> Bytes
+fn constant_instruction_text(alloc: Global, register: u32, value: &Value) -> Bytes
     ensures { IfOk result (λ text. text ≡ spec.instr_text (Instr.Const register value.now)) }
 {
     let name = name_and_numbers_text(alloc, b"const", &[u64::from(register)])?;
-    joined_text(name, spaced(alloc, value_text(alloc, value)?)?)
+    joined_text(name, text_after_space(alloc, value_text(alloc, value)?)?)
 }
 
 /// An instruction.
@@ -277,23 +289,23 @@ fn instr_text(alloc: Global, instr: &Instr) -> Bytes
     ensures { IfOk result (λ text. text ≡ spec.instr_text instr.now) }
 {
     match instr {
-        Instr::Const(d, value) => constant_text(alloc, *d, value),
+        Instr::Const(d, value) => constant_instruction_text(alloc, *d, value),
         Instr::Move(d, a) => name_and_registers_text(alloc, b"move", &[*d, *a]),
         Instr::Take(d, a) => name_and_registers_text(alloc, b"take", &[*d, *a]),
         Instr::Unary(operator, d, a) => name_and_registers_text(
             alloc,
-            unary_name(*operator),
+            unary_instruction_name(*operator),
             &[*d, *a],
         ),
         Instr::Binary(operator, d, a, b) => {
-            name_and_registers_text(alloc, binary_name(*operator), &[*d, *a, *b])
+            name_and_registers_text(alloc, binary_instruction_name(*operator), &[*d, *a, *b])
         }
         Instr::Put(d, a, b, c) => name_and_registers_text(alloc, b"put", &[*d, *a, *b, *c]),
         Instr::At(d, a, i) => name_and_numbers_text(alloc, b"at", &[*d as u64, *a as u64, *i]),
-        Instr::Tuple(d, from) => row_text(alloc, b"tuple", &[*d as u64], from.as_slice()),
-        Instr::List(d, from) => row_text(alloc, b"list", &[*d as u64], from.as_slice()),
+        Instr::Tuple(d, from) => operands_text(alloc, b"tuple", &[*d as u64], from.as_slice()),
+        Instr::List(d, from) => operands_text(alloc, b"list", &[*d as u64], from.as_slice()),
         Instr::Call(d, op, from) => {
-            row_text(alloc, b"call", &[*d as u64, *op as u64], from.as_slice())
+            operands_text(alloc, b"call", &[*d as u64, *op as u64], from.as_slice())
         }
         Instr::Append(d, a) => name_and_registers_text(alloc, b"append", &[*d, *a]),
         Instr::Jump(place) => name_and_numbers_text(alloc, b"jump", &[*place as u64]),
@@ -303,7 +315,7 @@ fn instr_text(alloc: Global, instr: &Instr) -> Bytes
             &[*a as u64, *place as u64],
         ),
         Instr::Apply(d, fun, from) => {
-            row_text(alloc, b"apply", &[*d as u64, *fun as u64], from.as_slice())
+            operands_text(alloc, b"apply", &[*d as u64, *fun as u64], from.as_slice())
         }
         Instr::Loop(d, a, i, place) => {
             name_and_numbers_text(
@@ -321,8 +333,11 @@ fn line_text(alloc: Global, number: usize, place: usize, instr: &Instr) -> Bytes
     ensures { IfOk result (λ text. text ≡ spec.line_text number place instr.now) }
 {
     let place = number_text(alloc, place as u64)?;
-    let numbers = joined_text(number_text(alloc, number as u64)?, spaced(alloc, place)?)?;
-    let mut line = joined_text(numbers, spaced(alloc, instr_text(alloc, instr)?)?)?;
+    let numbers = joined_text(
+        number_text(alloc, number as u64)?,
+        text_after_space(alloc, place)?,
+    )?;
+    let mut line = joined_text(numbers, text_after_space(alloc, instr_text(alloc, instr)?)?)?;
     line.push(b'\n')?;
     Ok(line)
 }

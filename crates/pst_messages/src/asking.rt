@@ -1,7 +1,7 @@
 //! The condition of a replay that checks preconditions.
 
 use pst_eval::Callbacks;
-use pst_judge::{Condition, Event, bool_in};
+use pst_judge::{Condition, Event, bool_of_value};
 use pst_value::{Fault, Value};
 use std::alloc::{AllocError, Global};
 
@@ -14,7 +14,7 @@ impl Condition for Preconditions {
 
     ghost asked = { λ p m s e. pre_of m e.op s e.args };
 
-    fn ask<C: Callbacks>(
+    fn evaluate_on_event<C: Callbacks>(
         &self,
         callbacks: &C,
         alloc: Global,
@@ -22,7 +22,7 @@ impl Condition for Preconditions {
         event: &Event,
     ) -> Result<Result<bool, Fault>, AllocError> {
         match callbacks.pre(alloc, event.op, state, event.args.as_slice())? {
-            Ok((answer, _)) => Ok(Ok(bool_in(&answer))),
+            Ok((answer, _)) => Ok(Ok(bool_of_value(&answer))),
             Err(fault) => Ok(Err(fault)),
         }
     }

@@ -14,7 +14,7 @@ type Answer = Result<Result<(Value, u32), Fault>, AllocError>;
 /// The callbacks of a compiled model, with a limit on their steps, which `pst_explain::StepLimitedCallbacks` counts. If no steps are
 /// left, a call returns `AllocError`, which ends the generation of a script.
 #[derive(Drop)]
-pub struct StepLimitedRecorder<'a> {
+pub struct StepLimitedCommandRecorder<'a> {
     limited: pst_explain::StepLimitedCallbacks<'a, Compiled>,
     /// The commands since the last call of `init`: those whose `next` was called, then the one whose `pre` faulted.
     commands: RefCell<Items<Command>>,
@@ -33,12 +33,12 @@ fn command_with_copied_arguments(
     Ok(Command { op, args })
 }
 
-impl<'a> StepLimitedRecorder<'a> {
+impl<'a> StepLimitedCommandRecorder<'a> {
     /// The callbacks of `compiled`, which may take `steps` steps.
-    pub fn new(alloc: Global, compiled: &'a Compiled, steps: u64) -> StepLimitedRecorder<'a>
+    pub fn new(alloc: Global, compiled: &'a Compiled, steps: u64) -> StepLimitedCommandRecorder<'a>
         ensures { result.limited.callbacks.now ≡ compiled.now }
     {
-        StepLimitedRecorder {
+        StepLimitedCommandRecorder {
             limited: pst_explain::StepLimitedCallbacks::new(compiled, steps),
             commands: RefCell::new(Items::new(alloc)),
         }
@@ -76,11 +76,11 @@ impl<'a> StepLimitedRecorder<'a> {
     }
 }
 
-impl<'a> Callbacks for StepLimitedRecorder<'a> {
+impl<'a> Callbacks for StepLimitedCommandRecorder<'a> {
     ghost model = { λ b. b.limited.callbacks.now };
 
     fn init(&self, alloc: Global) -> Answer {
-        self.limited.fail_if_out_of_steps()?;
+        self.limited.note_and_fail_if_out_of_steps()?;
         self.clear_commands(alloc);
         self.limited.init(alloc)
     }
@@ -105,7 +105,7 @@ impl<'a> Callbacks for StepLimitedRecorder<'a> {
         arguments: &[Value],
         r: &Value,
     ) -> Answer {
-        self.limited.fail_if_out_of_steps()?;
+        self.limited.note_and_fail_if_out_of_steps()?;
         self.record_command(alloc, op, arguments)?;
         self.limited.next(alloc, op, state, arguments, r)
     }

@@ -5,10 +5,10 @@ use pst_explain::broken_reply_sentence_of_run;
 use pst_judge::{Judged, Verdict};
 use pst_model::Typed;
 use pst_rejudge::ItemResult;
-use pst_run_problems::{find_part_of_command, parts_of_case};
+use pst_run_problems::{find_part_and_offset_of_command, parts_of_case_or_run};
 use pst_runs::read_runs;
 use pst_sexpr::{Form, Tree, node_of, read, word_of};
-use pst_sources::{Notice, span_of};
+use pst_sources::{Notice, span_at_path_or_whole_input};
 use std::alloc::{AllocError, Global};
 use std::slice;
 
@@ -23,7 +23,7 @@ struct BrokenItems {
 }
 
 /// The broken items with item `item`, if it is broken.
-fn broken_items_with_item_if_broken(
+fn count_item_if_broken(
     broken: Option<BrokenItems>,
     item: usize,
     judged: &Judged,
@@ -70,10 +70,13 @@ fn path_to_reply_or_item(
     item: usize,
     command: usize,
 ) -> Result<Vec<usize>, AllocError> {
-    let parts = parts_of_case(alloc, form)?;
+    let parts = parts_of_case_or_run(alloc, form)?;
     let trees = node_of(form).unwrap_or(&[]);
     let replies = trees.iter().position(|tree| has_replies_head(tree));
-    match (replies, find_part_of_command(parts.as_slice(), command)) {
+    match (
+        replies,
+        find_part_and_offset_of_command(parts.as_slice(), command),
+    ) {
         (Some(replies), Some((part, offset))) => {
             Vec::from_slice(alloc, &[item, replies, part.saturating_add(1), offset])
         }
@@ -117,13 +120,13 @@ fn first_broken_item_and_count_message(
     };
     let path = path_to_reply_or_item(alloc, tree.form(), item, broken.command as usize)?;
     let notice = Notice {
-        span: span_of(input.trees.bytes, path.as_slice()),
+        span: span_at_path_or_whole_input(input.trees.bytes, path.as_slice()),
         is_warning: false,
         what: format!(in alloc; "item {item} is broken: {sentence}")?,
         notes: Vec::new(alloc),
         lines: String::new(alloc),
     };
-    let mut text = input.notice_text_on_part(alloc, tree.form(), path.as_slice(), notice)?;
+    let mut text = input.notice_text_on_part_as_read(alloc, tree.form(), path.as_slice(), notice)?;
     let more = broken.count.saturating_sub(1);
     if more > 0 {
         let items = if more == 1 { "item is" } else { "items are" };
@@ -137,7 +140,7 @@ fn first_broken_item_and_count_message(
 ///
 /// `typed` is the model of the input, and `judged` are the judgements on all items in their order. If an item is
 /// broken, the function reads the trees of the input once more; it returns `None` if that fails.
-pub fn message_on_first_broken_run(
+pub fn first_broken_run_and_count_message(
     alloc: Global,
     typed: &Typed,
     input: ItemInput<'_>,
@@ -145,7 +148,7 @@ pub fn message_on_first_broken_run(
 ) -> Result<Option<String>, AllocError> {
     let mut broken = None;
     for (index, judged) in judged.iter().enumerate() {
-        broken = broken_items_with_item_if_broken(broken, index.saturating_add(1), judged);
+        broken = count_item_if_broken(broken, index.saturating_add(1), judged);
     }
     let Some(broken) = broken else {
         return Ok(None);
@@ -165,7 +168,7 @@ pub fn message_on_first_broken_run(
 /// Says why the first broken item is broken, and how many others are, for a person to read. Returns `None` if no item
 /// is broken, or if its reply cannot be said. `answers` are the answers to all items in their order, and `trees` are the
 /// trees of the input.
-pub fn message_on_first_broken_item_result(
+pub fn first_broken_item_result_and_count_message(
     alloc: Global,
     typed: &Typed,
     input: ItemInput<'_>,
@@ -175,7 +178,7 @@ pub fn message_on_first_broken_item_result(
     let mut broken = None;
     for (index, answer) in answers.iter().enumerate() {
         if let ItemResult::Judged(judged) = answer {
-            broken = broken_items_with_item_if_broken(broken, index.saturating_add(1), judged);
+            broken = count_item_if_broken(broken, index.saturating_add(1), judged);
         }
     }
     match broken {

@@ -1,7 +1,9 @@
 //! Messages on bytes that are no file of trees.
 
 use pst_sexpr::{FaultKind, MAX_BYTES, MAX_LEVELS, SexprFault};
-use pst_sources::{Input, Span, char_at, closed_item, find_unclosed_item};
+use pst_sources::{
+    Input, Span, char_and_length_at, find_probably_unclosed_item, item_closed_before_stray_bracket,
+};
 use std::alloc::{AllocError, Global};
 use std::fmt::Display;
 
@@ -14,7 +16,7 @@ pub struct ByteFault {
 }
 
 /// The span of the byte at `place`.
-fn one_byte_span(place: usize) -> Span {
+fn one_byte_fault_span(place: usize) -> Span {
     Span {
         start: place,
         end: place.saturating_add(1),
@@ -61,7 +63,7 @@ fn with_open_item_note(
     next: Span,
     wrong: ByteFault,
 ) -> Result<ByteFault, AllocError> {
-    let line = input.line_at(alloc, next.start, open.start)?;
+    let line = input.line_with_file_unless_same(alloc, next.start, open.start)?;
     let line = line.as_str();
     wrong.with_note(
         alloc,
@@ -70,16 +72,16 @@ fn with_open_item_note(
 }
 
 /// The fault of a missing `)`, at the item that is probably not closed.
-fn missing_close_fault(
+fn missing_closing_bracket_fault(
     alloc: Global,
     input: &Input<'_>,
     place: usize,
 ) -> Result<ByteFault, AllocError> {
-    let Some(open) = find_unclosed_item(input.bytes) else {
+    let Some(open) = find_probably_unclosed_item(input.bytes) else {
         let what = "a `)` is missing: this `(` is not closed";
-        return ByteFault::new(alloc, one_byte_span(place), what);
+        return ByteFault::new(alloc, one_byte_fault_span(place), what);
     };
-    let line = input.line_at(alloc, place, open.item.start)?;
+    let line = input.line_with_file_unless_same(alloc, place, open.item.start)?;
     let line = line.as_str();
     let what = "a `)` is missing, probably in the item that begins here";
     let wrong = ByteFault::new(alloc, open.item, what)?;
@@ -100,7 +102,7 @@ const ASCII: &str = "words and texts are printable ASCII; only comments may have
 const ESCAPES: &str = "a text has two escapes: `\\\"` and `\\\\`";
 
 /// The fault of `letter`, which has `width` bytes and is not printable ASCII.
-fn foreign_char_fault(
+fn char_beyond_printable_ascii_fault(
     alloc: Global,
     input: &Input<'_>,
     place: usize,
@@ -125,30 +127,36 @@ fn foreign_char_fault(
 }
 
 /// The fault of a character that may not be at `place`, or of a byte that belongs to no character.
-fn bad_escape_or_char_fault(
+fn bad_escape_char_or_byte_fault(
     alloc: Global,
     input: &Input<'_>,
     place: usize,
     byte: u8,
 ) -> Result<ByteFault, AllocError> {
-    match char_at(input.bytes, place) {
+    match char_and_length_at(input.bytes, place) {
         Some((letter, _)) if b' ' <= byte && byte <= b'~' => {
             let what = format_args!("`\\{letter}` is not an escape");
-            ByteFault::new(alloc, one_byte_span(place), what)?.with_note(alloc, ESCAPES)
+            ByteFault::new(alloc, one_byte_fault_span(place), what)?.with_note(alloc, ESCAPES)
         }
-        Some((letter, width)) => foreign_char_fault(alloc, input, place, letter, width),
+        Some((letter, width)) => char_beyond_printable_ascii_fault(
+            alloc, input, place, letter, width,
+        ),
         None => {
             let what = format_args!(
                 "the byte {byte} is neither ASCII nor part of a UTF-8 character"
             );
-            ByteFault::new(alloc, one_byte_span(place), what)?.with_note(alloc, ASCII)
+            ByteFault::new(alloc, one_byte_fault_span(place), what)?.with_note(alloc, ASCII)
         }
     }
 }
 
 /// The fault of a byte that may not be at `place`.
-fn bad_byte_fault(alloc: Global, input: &Input<'_>, place: usize) -> Result<ByteFault, AllocError> {
-    let span = one_byte_span(place);
+fn bad_byte_or_file_end_fault(
+    alloc: Global,
+    input: &Input<'_>,
+    place: usize,
+) -> Result<ByteFault, AllocError> {
+    let span = one_byte_fault_span(place);
     match input.bytes.get(place) {
         Some(b'\n') | Some(b'\r') | Some(b'\t') => {
             ByteFault::new(alloc, span, "a text does not end on its line")?.with_note(
@@ -156,24 +164,24 @@ fn bad_byte_fault(alloc: Global, input: &Input<'_>, place: usize) -> Result<Byte
                 "hint: a `\"` is missing, or the text has a tab or a line end in it",
             )
         }
-        Some(byte) => bad_escape_or_char_fault(alloc, input, place, *byte),
+        Some(byte) => bad_escape_char_or_byte_fault(alloc, input, place, *byte),
         None => ByteFault::new(alloc, span, "the file ends here"),
     }
 }
 
 /// The fault of a `)` that closes nothing, with the place where the item before it was closed.
-fn stray_close_fault(
+fn stray_closing_bracket_fault(
     alloc: Global,
     input: &Input<'_>,
     place: usize,
 ) -> Result<ByteFault, AllocError> {
-    let wrong = ByteFault::new(alloc, one_byte_span(place), "this `)` closes nothing")?;
-    let Some(item) = closed_item(input.bytes, place) else {
+    let wrong = ByteFault::new(alloc, one_byte_fault_span(place), "this `)` closes nothing")?;
+    let Some(item) = item_closed_before_stray_bracket(input.bytes, place) else {
         return wrong.with_note(alloc, "hint: nothing is open here");
     };
     let called = item.called;
-    let start = input.place_at(alloc, item.span.start, place)?;
-    let end = input.place_at(alloc, item.span.end.saturating_sub(1), place)?;
+    let start = input.place_with_file_unless_same(alloc, item.span.start, place)?;
+    let end = input.place_with_file_unless_same(alloc, item.span.end.saturating_sub(1), place)?;
     let start = start.as_str();
     let end = end.as_str();
     let note = format_args!("the {called} that begins at {start} is already closed at {end}");
@@ -188,14 +196,14 @@ pub fn byte_fault_of_sexpr_fault(
     input: &Input<'_>,
     refused: SexprFault,
 ) -> Result<ByteFault, AllocError> {
-    let span = one_byte_span(refused.place);
+    let span = one_byte_fault_span(refused.place);
     match refused.kind {
-        FaultKind::BadByte => bad_byte_fault(alloc, input, refused.place),
+        FaultKind::BadByte => bad_byte_or_file_end_fault(alloc, input, refused.place),
         FaultKind::UnclosedText => {
             ByteFault::new(alloc, span, "the text that begins here is not closed")
         }
-        FaultKind::UnclosedNode => missing_close_fault(alloc, input, refused.place),
-        FaultKind::StrayClose => stray_close_fault(alloc, input, refused.place),
+        FaultKind::UnclosedNode => missing_closing_bracket_fault(alloc, input, refused.place),
+        FaultKind::StrayClose => stray_closing_bracket_fault(alloc, input, refused.place),
         FaultKind::TooDeep => ByteFault::new(
             alloc,
             span,

@@ -21,7 +21,7 @@ pub struct FalsePreconditionCommand {
 }
 
 /// For each operation of a model, in their order, whether its precondition is another expression than `true`.
-pub fn marks_of_operations_with_preconditions(
+pub fn which_operations_have_preconditions(
     alloc: Global,
     items: &[Item],
 ) -> Result<Vec<bool>, AllocError> {
@@ -35,20 +35,20 @@ pub fn marks_of_operations_with_preconditions(
 }
 
 /// Whether one of the commands calls a marked operation.
-fn has_call_of_marked_operation(marks: &[bool], commands: &[Command]) -> bool {
+fn do_commands_call_marked_operation(marks: &[bool], commands: &[Command]) -> bool {
     commands
         .iter()
         .any(|command| marks.get(command.op as usize) == Some(&true))
 }
 
 /// Whether a command of a case calls a marked operation.
-pub fn has_case_call_of_marked_operation(marks: &[bool], case: &Case) -> bool {
-    has_call_of_marked_operation(marks, case.prefix.as_slice())
-        || case.branches.as_slice().iter().any(|branch| has_call_of_marked_operation(
+pub fn does_case_call_marked_operation(marks: &[bool], case: &Case) -> bool {
+    do_commands_call_marked_operation(marks, case.prefix.as_slice())
+        || case.branches.as_slice().iter().any(|branch| do_commands_call_marked_operation(
             marks,
             branch.as_slice(),
         ))
-        || has_call_of_marked_operation(marks, case.suffix.as_slice())
+        || do_commands_call_marked_operation(marks, case.suffix.as_slice())
 }
 
 /// Whether all results are known.
@@ -71,17 +71,21 @@ fn count_commands_in_earlier_branches(case: &Case, branch: usize) -> usize {
     count
 }
 
-/// The number, from 1, of the command at `place`, from 0, in the interleaving `word`.
-fn command_number_at_interleaving_place(case: &Case, word: &[usize], place: usize) -> usize {
+/// The number, from 1, of the command at `place`, from 0, in `interleaving`.
+fn command_number_at_interleaving_place(
+    case: &Case,
+    interleaving: &[usize],
+    place: usize,
+) -> usize {
     let prefix_length = case.prefix.len();
     let letter = place.saturating_sub(prefix_length);
     if place < prefix_length {
         return place.saturating_add(1);
     }
-    let Some(branch) = word.get(letter) else {
+    let Some(branch) = interleaving.get(letter) else {
         return place.saturating_add(1);
     };
-    let earlier = word
+    let earlier = interleaving
         .iter()
         .take(letter)
         .filter(|other| **other == *branch)
@@ -92,13 +96,13 @@ fn command_number_at_interleaving_place(case: &Case, word: &[usize], place: usiz
         .saturating_add(1)
 }
 
-/// The first command of a recorded run whose precondition is not true in the interleaving `word`, which explains the
+/// The first command of a recorded run whose precondition is not true in `interleaving`, which explains the
 /// run. Returns `None` if each is true, or if a result of the run is not known.
-pub fn first_command_with_false_precondition<C: Callbacks>(
+pub fn first_untrue_precondition_if_results_known<C: Callbacks>(
     callbacks: &C,
     alloc: Global,
     run: &Run,
-    word: &[usize],
+    interleaving: &[usize],
 ) -> Result<Option<FalsePreconditionCommand>, AllocError>
     requires { IsLawful (C.model callbacks.now) run.now }
 {
@@ -114,7 +118,7 @@ pub fn first_command_with_false_precondition<C: Callbacks>(
         shaped: &run.shaped,
         history,
     };
-    let mut states = states(&recorded, &Preconditions, word)?;
+    let mut states = states(&recorded, &Preconditions, interleaving)?;
     let case = run.shaped.case();
     let commands = count_case_commands(case);
     let count = states.len();
@@ -123,7 +127,11 @@ pub fn first_command_with_false_precondition<C: Callbacks>(
     }
     match states.pop() {
         Some(state) => Ok(Some(FalsePreconditionCommand {
-            command: command_number_at_interleaving_place(case, word, count.saturating_sub(1)),
+            command: command_number_at_interleaving_place(
+                case,
+                interleaving,
+                count.saturating_sub(1),
+            ),
             state,
         })),
         None => Ok(None),

@@ -1,8 +1,8 @@
 //! The warning on scripts in which a callback faults, and the explanation of one.
 ghost use Rattle.std.specs.Prelude.{◌≤◌};
 
-use crate::scripts::{FaultyScript, ScriptSummary, faulty_script_of_trial};
-use crate::warning::{tree_number_of_item, warning_notice};
+use crate::scripts::{FaultyScript, ScriptSummary, find_faulty_script_of_trial};
+use crate::warning::{tree_number_of_model_item, warning_notice};
 use pst_case::Command;
 use pst_compile::{Compiled, compile};
 use pst_eval::{Callback, FaultPlace};
@@ -25,7 +25,7 @@ fn is_item_of_model_callback(item: &Item, callback: Callback) -> bool {
 }
 
 /// The number, from 0, of the item of `callback`: `init`, `command`, or the operation with the number `operation`.
-fn item_number_of_callback(items: &[Item], callback: Callback, operation: u32) -> usize {
+fn item_number_of_callback_or_zero(items: &[Item], callback: Callback, operation: u32) -> usize {
     let mut operations: u32 = 0;
     let is_of_operation = !matches!(callback, Callback::Init | Callback::Command);
     for (number, item) in items.iter().enumerate() {
@@ -44,7 +44,7 @@ fn item_number_of_callback(items: &[Item], callback: Callback, operation: u32) -
 
 /// The path to the expression of the callback that faults. In the tree of an operation, its callbacks come after its
 /// head, its name, its parameters and its type.
-fn path_to_faulting_expression(
+fn path_to_expression_of_faulting_callback(
     alloc: Global,
     items: &[Item],
     commands: &[Command],
@@ -54,7 +54,11 @@ fn path_to_faulting_expression(
         Some(command) => command.op,
         None => 0,
     };
-    let tree = tree_number_of_item(item_number_of_callback(items, place.callback, operation));
+    let tree = tree_number_of_model_item(item_number_of_callback_or_zero(
+        items,
+        place.callback,
+        operation,
+    ));
     match place.callback {
         Callback::Init | Callback::Command => Vec::from_slice(alloc, &[0, tree, 1]),
         Callback::Pre => Vec::from_slice(alloc, &[0, tree, 4, 1]),
@@ -64,7 +68,7 @@ fn path_to_faulting_expression(
 }
 
 /// Why a script faults, in the lines of `pst explain`.
-fn explain_script_fault(
+fn script_fault_explanation_or_empty(
     alloc: Global,
     typed: &Typed,
     script: FaultyScript,
@@ -96,7 +100,7 @@ fn faulty_script_count_text(alloc: Global, scripts: &ScriptSummary) -> Result<St
 }
 
 /// The warning that scripts fault, with the explanation of the first of them, if there is one.
-pub fn faulty_scripts_warning(
+pub fn faulty_scripts_warning_if_any(
     alloc: Global,
     input: &Input<'_>,
     typed: &Typed,
@@ -115,7 +119,12 @@ pub fn faulty_scripts_warning(
         return Ok(warnings);
     };
     let items = typed.source().items.as_slice();
-    let path = path_to_faulting_expression(alloc, items, first.commands.as_slice(), first.place)?;
+    let path = path_to_expression_of_faulting_callback(
+        alloc,
+        items,
+        first.commands.as_slice(),
+        first.place,
+    )?;
     let mut faults = warning_notice(
         alloc,
         input,
@@ -123,7 +132,7 @@ pub fn faulty_scripts_warning(
         what,
         "a campaign has no case for such a script and counts it under `genfault`",
     )?;
-    faults.lines = explain_script_fault(alloc, typed, first)?;
+    faults.lines = script_fault_explanation_or_empty(alloc, typed, first)?;
     warnings.push(faults)?;
     Ok(warnings)
 }
@@ -149,8 +158,12 @@ pub fn explanation_why_trial_has_no_case(
     let Ok(compiled) = compile(alloc, file.typed) else {
         return Err(AllocError);
     };
-    match faulty_script_of_trial(alloc, &compiled, seed, number, commands)? {
-        Some(script) => Ok(Some(explain_script_fault(alloc, compiled.typed(), script)?)),
+    match find_faulty_script_of_trial(alloc, &compiled, seed, number, commands)? {
+        Some(script) => Ok(Some(script_fault_explanation_or_empty(
+            alloc,
+            compiled.typed(),
+            script,
+        )?)),
         None => Ok(None),
     }
 }

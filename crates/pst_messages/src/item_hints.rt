@@ -11,7 +11,7 @@ pub fn is_model_tree(tree: &Tree) -> bool {
 }
 
 /// The error `notice` on `tree`. If the tree is the model of another file than the first, a hint says so.
-fn with_hint_if_model_of_later_file(
+fn replace_notes_if_model_of_later_file(
     alloc: Global,
     input: &Input<'_>,
     tree: &Tree,
@@ -51,7 +51,7 @@ fn is_line_start(bytes: &[u8], place: usize) -> bool {
 }
 
 /// The error `notice` on `tree`. If the tree begins JSON and is not at the beginning of its line, a hint says so.
-fn with_hint_if_json_not_at_line_start(
+fn replace_notes_if_json_within_line(
     alloc: Global,
     input: &Input<'_>,
     tree: &Tree,
@@ -66,12 +66,12 @@ fn with_hint_if_json_not_at_line_start(
 }
 
 /// The error `notice` on the item `tree`, with a hint if the tree is the model of another file, or JSON within a line.
-pub fn with_misplaced_item_hint(
+pub fn replace_notes_by_hint_if_misplaced(
     alloc: Global,
     input: &Input<'_>,
     tree: &Tree,
     notice: Notice,
 ) -> Result<Notice, AllocError> {
-    let notice = with_hint_if_json_not_at_line_start(alloc, input, tree, notice)?;
-    with_hint_if_model_of_later_file(alloc, input, tree, notice)
+    let notice = replace_notes_if_json_within_line(alloc, input, tree, notice)?;
+    replace_notes_if_model_of_later_file(alloc, input, tree, notice)
 }

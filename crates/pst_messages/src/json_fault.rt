@@ -3,7 +3,7 @@
 use crate::bytes::ByteFault;
 use crate::json_places::{
     JsonPartCursor, find_bracket_deeper_than, first_byte_of_json_value_or_zero, is_json_array_at,
-    json_value_span,
+    next_json_value_span,
 };
 use json::{Error, MAX_DEPTH, Reader, Scratch, Value as Json};
 use pst_run_problems::JSON_ITEM;
@@ -55,7 +55,7 @@ fn is_json_array_beginning_with_string(line: &[u8], value: Span) -> bool {
     is_json_array_at(line, value)
         && first_byte_of_json_value_or_zero(
             line,
-            json_value_span(line, value.start.saturating_add(1)),
+            next_json_value_span(line, value.start.saturating_add(1)),
         ) == b'"'
 }
 
@@ -143,11 +143,11 @@ fn json_replies_fault(alloc: Global, line: &[u8], replies: Span) -> FoundFault {
 fn unknown_json_member_fault(alloc: Global, name: &str, key: Span) -> FoundFault {
     let what = format_args!("unknown member `{name}`: prefix, branches, suffix, replies");
     let fault = ByteFault::new(alloc, key, what)?;
-    let near = NearestNameSoFar::to(name)
-        .or(alloc, "prefix", name)?
-        .or(alloc, "branches", name)?
-        .or(alloc, "suffix", name)?
-        .or(alloc, "replies", name)?;
+    let near = NearestNameSoFar::without_candidates(name)
+        .or_nearer_candidate(alloc, "prefix", name)?
+        .or_nearer_candidate(alloc, "branches", name)?
+        .or_nearer_candidate(alloc, "suffix", name)?
+        .or_nearer_candidate(alloc, "replies", name)?;
     match near.hint() {
         Some(hint) => Ok(Some(fault.with_note(alloc, hint)?)),
         None => Ok(Some(fault)),
@@ -196,7 +196,7 @@ fn fault_of_first_bad_json_member(
     line: &[u8],
     members: &[(&str, Json<'_>)],
 ) -> FoundFault {
-    let mut parts = JsonPartCursor::of(json_value_span(line, 0));
+    let mut parts = JsonPartCursor::of(next_json_value_span(line, 0));
     for number in 0..members.len() {
         let (Some(key), Some(value)) = (parts.next(line), parts.next(line)) else {
             return Ok(None);
@@ -210,14 +210,18 @@ fn fault_of_first_bad_json_member(
 }
 
 /// The fault of the members of an item, if they have one.
-fn json_members_fault(alloc: Global, line: &[u8], members: &[(&str, Json<'_>)]) -> FoundFault {
+fn bad_or_missing_json_member_fault(
+    alloc: Global,
+    line: &[u8],
+    members: &[(&str, Json<'_>)],
+) -> FoundFault {
     let found = fault_of_first_bad_json_member(alloc, line, members)?;
     if found.is_some() || is_among_first_json_members(members, members.len(), "branches") {
         return Ok(found);
     }
     json_fault_with_note(
         alloc,
-        json_value_span(line, 0),
+        next_json_value_span(line, 0),
         "the member `branches` is missing",
         CALLS,
     )
@@ -233,15 +237,15 @@ fn find_json_syntax_error_offset(alloc: Global, text: &str) -> Result<usize, All
 
 /// The place where the text after the first value of a line begins, without white space before it, or the end of the
 /// line if none follows. `None` if the value is no JSON.
-fn place_of_text_after_json_value(alloc: Global, text: &str) -> Result<Option<usize>, AllocError> {
+fn place_after_json_value_if_valid(alloc: Global, text: &str) -> Result<Option<usize>, AllocError> {
     let line = text.as_bytes();
-    let whole = json_value_span(line, 0);
+    let whole = next_json_value_span(line, 0);
     let Some(value) = text.get(whole.start..whole.end) else {
         return Ok(None);
     };
     let mut scratch = Scratch::new(alloc);
     match Json::parse(alloc, value, &mut scratch) {
-        Ok(_) => Ok(Some(json_value_span(line, whole.end).start)),
+        Ok(_) => Ok(Some(next_json_value_span(line, whole.end).start)),
         Err(Error::OutOfMemory) => Err(AllocError),
         Err(_) => Ok(None),
     }
@@ -273,7 +277,7 @@ fn json_too_deep_fault(alloc: Global, place: usize) -> FoundFault {
 
 /// The fault of a line that is no JSON.
 fn json_syntax_fault(alloc: Global, text: &str) -> FoundFault {
-    if let Some(place) = place_of_text_after_json_value(alloc, text)? {
+    if let Some(place) = place_after_json_value_if_valid(alloc, text)? {
         let span = Span {
             start: place,
             end: place.saturating_add(1),
@@ -305,11 +309,15 @@ fn json_syntax_fault(alloc: Global, text: &str) -> FoundFault {
 pub fn json_item_form_fault(alloc: Global, line: &[u8]) -> FoundFault {
     let Ok(text) = str::from_utf8(line) else {
         let what = "no JSON: the line is not UTF-8";
-        return Ok(Some(ByteFault::new(alloc, json_value_span(line, 0), what)?));
+        return Ok(Some(ByteFault::new(alloc, next_json_value_span(line, 0), what)?));
     };
     let mut scratch = Scratch::new(alloc);
     match Json::parse(alloc, text, &mut scratch) {
-        Ok(Json::Object(members)) => json_members_fault(alloc, line, members.as_slice()),
+        Ok(Json::Object(members)) => bad_or_missing_json_member_fault(
+            alloc,
+            line,
+            members.as_slice(),
+        ),
         Ok(_) => Ok(None),
         Err(Error::OutOfMemory) => Err(AllocError),
         Err(_) => json_syntax_fault(alloc, text),

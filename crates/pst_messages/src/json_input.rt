@@ -3,7 +3,7 @@
 use crate::bytes::ByteFault;
 use crate::json_item::{json_item_fault, json_span_at_or_around_tree_path};
 use crate::message::{MessageScope, errors_of_input_without_json_items};
-use pst_json_runs::{is_json_item_line, replace_json_lines_by_trees};
+use pst_json_runs::{begins_like_json_item, replace_json_lines_by_trees};
 use pst_model::{Source, Typed};
 use pst_sexpr::{Form, MAX_BYTES};
 use pst_sources::{Input, Notice, Notices, SourceFile, Span};
@@ -11,7 +11,7 @@ use pst_typing::load;
 use std::alloc::{AllocError, Global};
 
 /// The line that begins at `place`, without its end.
-fn line_starting_at(text: &[u8], place: usize) -> &[u8] {
+fn json_text_line_starting_at(text: &[u8], place: usize) -> &[u8] {
     for at in place..text.len() {
         if text.get(at) == Some(&b'\n') {
             return text.get(place..at).unwrap_or(&[]);
@@ -21,7 +21,7 @@ fn line_starting_at(text: &[u8], place: usize) -> &[u8] {
 }
 
 /// The place of the first line with a JSON item.
-pub fn find_first_json_item(text: &[u8]) -> Option<usize> {
+pub fn find_first_line_like_json_item(text: &[u8]) -> Option<usize> {
     let mut is_begin = true;
     for (place, byte) in text.iter().enumerate() {
         if is_begin && *byte == b'{' {
@@ -32,26 +32,26 @@ pub fn find_first_json_item(text: &[u8]) -> Option<usize> {
     None
 }
 
-/// Where a line begins, in the text with JSON items and in the one with trees in their place.
+/// The two places at which a line begins: in the text with JSON items, and in the text with trees in their place.
 #[derive(Clone, Copy, Drop)]
-struct LinePair {
+struct JsonAndTreeLineStart {
     json: usize,
     tree: usize,
 }
 
-impl LinePair {
+impl JsonAndTreeLineStart {
     /// The first line.
-    fn first() -> LinePair {
-        LinePair { json: 0, tree: 0 }
+    fn first() -> JsonAndTreeLineStart {
+        JsonAndTreeLineStart { json: 0, tree: 0 }
     }
 
     /// The line that `place` is in, which is a place in the text with trees. It is this line or a later one.
-    fn advance_to_line_at(self, json: &[u8], trees: &[u8], place: usize) -> LinePair {
+    fn advance_to_line_at(self, json: &[u8], trees: &[u8], place: usize) -> JsonAndTreeLineStart {
         let mut pair = self;
         for at in self.tree..place {
             if trees.get(at) == Some(&b'\n') {
-                let length = line_starting_at(json, pair.json).len();
-                pair = LinePair {
+                let length = json_text_line_starting_at(json, pair.json).len();
+                pair = JsonAndTreeLineStart {
                     json: pair.json.saturating_add(length).saturating_add(1),
                     tree: at.saturating_add(1),
                 };
@@ -69,16 +69,16 @@ impl LinePair {
 /// The bytes of a part of the item `tree` in `json`, a text with JSON items, if the part is at `span` in `trees`, the text
 /// with a tree in place of each of them. `path` leads to the part. In a JSON item the bytes may be those of an array
 /// around the part. The span may be empty if a text is not the one that is meant.
-pub fn span_in_json_text(
+pub fn translate_span_to_json_text(
     json: &[u8],
     trees: &[u8],
     tree: &Form,
     path: &[usize],
     span: Span,
 ) -> Span {
-    let pair = LinePair::first().advance_to_line_at(json, trees, span.start);
-    let line = line_starting_at(json, pair.json);
-    if !is_json_item_line(line) {
+    let pair = JsonAndTreeLineStart::first().advance_to_line_at(json, trees, span.start);
+    let line = json_text_line_starting_at(json, pair.json);
+    if !begins_like_json_item(line) {
         return Span {
             start: pair.place_in_json(span.start),
             end: pair.place_in_json(span.end),
@@ -108,15 +108,15 @@ fn json_fault_notice(alloc: Global, start: usize, fault: ByteFault) -> Notice {
 
 /// The error `notice`, which is about the text with trees, as an error on the text with JSON items. If `pair` is at a
 /// JSON item with a fault, it is the error on this fault instead.
-fn notice_on_json_text(
+fn json_fault_or_translated_notice(
     alloc: Global,
     typed: &Typed,
     json: &[u8],
-    pair: LinePair,
+    pair: JsonAndTreeLineStart,
     notice: Notice,
 ) -> Result<Notice, AllocError> {
-    let line = line_starting_at(json, pair.json);
-    if is_json_item_line(line) {
+    let line = json_text_line_starting_at(json, pair.json);
+    if begins_like_json_item(line) {
         if let Some(fault) = json_item_fault(alloc, typed, line)? {
             return Ok(json_fault_notice(alloc, pair.json, fault));
         }
@@ -150,10 +150,10 @@ fn too_large_as_trees_notice(
     json: &[u8],
     trees: &[u8],
 ) -> Result<Notice, AllocError> {
-    let LinePair {
+    let JsonAndTreeLineStart {
         json: start,
         tree: _,
-    } = LinePair::first().advance_to_line_at(json, trees, MAX_BYTES);
+    } = JsonAndTreeLineStart::first().advance_to_line_at(json, trees, MAX_BYTES);
     let first_byte = Span { start: 0, end: 1 };
     let fault = ByteFault::new(
         alloc,
@@ -165,7 +165,7 @@ fn too_large_as_trees_notice(
 }
 
 /// The errors of an input with JSON items whose model is accepted.
-fn errors_of_json_items_and_model(
+fn errors_of_json_and_tree_items(
     alloc: Global,
     input: &Input<'_>,
     typed: &Typed,
@@ -186,10 +186,16 @@ fn errors_of_json_items_and_model(
         all: Vec::new(alloc),
         more,
     };
-    let mut pair = LinePair::first();
+    let mut pair = JsonAndTreeLineStart::first();
     for notice in all {
         pair = pair.advance_to_line_at(input.bytes, trees.bytes, notice.span.start);
-        notices.all.push(notice_on_json_text(alloc, typed, input.bytes, pair, notice)?)?;
+        notices.all.push(json_fault_or_translated_notice(
+            alloc,
+            typed,
+            input.bytes,
+            pair,
+            notice,
+        )?)?;
     }
     Ok(notices)
 }
@@ -207,7 +213,7 @@ pub fn errors_of_input_with_json_items(
     }
     let head = input.bytes.get(..place).unwrap_or(&[]);
     match load(alloc, head)? {
-        Ok(file) => errors_of_json_items_and_model(alloc, input, &file.typed, scope),
+        Ok(file) => errors_of_json_and_tree_items(alloc, input, &file.typed, scope),
         Err(_) => {
             let files = input.files;
             errors_of_input_without_json_items(alloc, &Input { files, bytes: head }, scope)

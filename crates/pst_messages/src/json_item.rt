@@ -3,11 +3,12 @@
 use crate::bytes::ByteFault;
 use crate::json_fault::{json_item_form_fault, shortened_json_value};
 use crate::json_places::{
-    JsonPartCursor, array_element_span_or_whole, first_byte_of_json_value_or_zero, json_value_span,
+    JsonPartCursor, array_element_span_or_whole, first_byte_of_json_value_or_zero,
+    next_json_value_span,
 };
-use pst_json_runs::json_line_tree;
+use pst_json_runs::json_line_tree_or_empty;
 use pst_model::Typed;
-use pst_run_problems::{node_parts_or_empty, run_problem};
+use pst_run_problems::{node_parts_or_empty, refused_case_or_run_problem};
 use pst_runs::{RunFault, read_runs};
 use pst_sexpr::{Form, Tree, tree_in};
 use pst_sources::Span;
@@ -17,7 +18,7 @@ use std::slice;
 
 /// The value of the member `name` of an item, or all its bytes.
 fn json_member_span_or_whole(line: &[u8], name: &str) -> Span {
-    let whole = json_value_span(line, 0);
+    let whole = next_json_value_span(line, 0);
     let mut parts = JsonPartCursor::of(whole);
     for _ in whole.start..whole.end {
         let (Some(key), Some(value)) = (parts.next(line), parts.next(line)) else {
@@ -52,7 +53,7 @@ fn json_part_span_and_headless_levels(line: &[u8], head: &str) -> (Span, usize) 
 /// JSON differ in their parts.
 pub fn json_span_at_or_around_tree_path(line: &[u8], tree: &Form, path: &[usize]) -> Span {
     let Some((place, rest)) = path.split_first() else {
-        return json_value_span(line, 0);
+        return next_json_value_span(line, 0);
     };
     let head = match node_parts_or_empty(tree).get(*place) {
         Some(part) => head_word_or_empty(part),
@@ -144,7 +145,7 @@ fn foreign_json_value_or_whole(
         if found.1.is_some() {
             return found;
         }
-        let part = json_value_span(line, at);
+        let part = next_json_value_span(line, at);
         let is_begun = at >= end_of_part && at == part.start && part.start < part.end;
         if is_begun && can_be_foreign_json_value(line, part) {
             found = (part, hint_on_foreign_json_value(line, part, before));
@@ -264,7 +265,7 @@ fn json_fault_from_run_fault(
     tree: &Tree,
     fault: RunFault,
 ) -> Result<Option<ByteFault>, AllocError> {
-    match run_problem(alloc, typed.source(), tree.form(), fault)? {
+    match refused_case_or_run_problem(alloc, typed.source(), tree.form(), fault)? {
         Some(problem) => Ok(Some(json_fault_from_tree_problem(
             alloc,
             line,
@@ -281,7 +282,7 @@ fn json_item_fault_beyond_form(
     typed: &Typed,
     line: &[u8],
 ) -> Result<Option<ByteFault>, AllocError> {
-    let tree = json_line_tree(alloc, typed.source(), line)?;
+    let tree = json_line_tree_or_empty(alloc, typed.source(), line)?;
     match read_runs(alloc, typed, slice::from_ref(&tree)) {
         Ok(_) => Ok(None),
         Err(fault) => json_fault_from_run_fault(alloc, typed, line, &tree, fault),

@@ -10,7 +10,7 @@ fn is_json_space(byte: u8) -> bool {
 }
 
 /// The place of the first byte from `from` on that is no white space.
-fn skip_json_space(line: &[u8], from: usize) -> usize {
+fn place_after_json_space(line: &[u8], from: usize) -> usize {
     for at in from..line.len() {
         match line.get(at) {
             Some(byte) if is_json_space(*byte) => {}
@@ -21,7 +21,7 @@ fn skip_json_space(line: &[u8], from: usize) -> usize {
 }
 
 /// The end of the number or the word that begins at `start`.
-fn json_word_end(line: &[u8], start: usize) -> usize {
+fn end_of_json_number_or_literal(line: &[u8], start: usize) -> usize {
     for at in start..line.len() {
         match line.get(at) {
             Some(b',' | b':' | b'[' | b']' | b'{' | b'}' | b'"') => return at,
@@ -113,11 +113,11 @@ fn end_of_json_string_or_container(line: &[u8], start: usize) -> usize {
 }
 
 /// Returns the bytes of the first value from `from` on. The span is empty if a closing bracket comes first.
-pub fn json_value_span(line: &[u8], from: usize) -> Span {
-    let start = skip_json_space(line, from);
+pub fn next_json_value_span(line: &[u8], from: usize) -> Span {
+    let start = place_after_json_space(line, from);
     let end = match line.get(start) {
         Some(b'"' | b'[' | b'{') => end_of_json_string_or_container(line, start),
-        Some(_) => json_word_end(line, start),
+        Some(_) => end_of_json_number_or_literal(line, start),
         None => start,
     };
     Span { start, end }
@@ -152,11 +152,11 @@ impl JsonPartCursor {
 
     /// The next part, if there is one.
     pub fn next(&mut self, line: &[u8]) -> Option<Span> {
-        let part = json_value_span(line, self.at);
+        let part = next_json_value_span(line, self.at);
         if part.start >= part.end {
             return None;
         }
-        let end = skip_json_space(line, part.end);
+        let end = place_after_json_space(line, part.end);
         self.at = match line.get(end) {
             Some(b',' | b':') => end.saturating_add(1),
             _ => end,

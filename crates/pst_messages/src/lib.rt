@@ -27,10 +27,10 @@ mod scripts;
 mod spelling;
 mod warning;
 
-pub use broken::{message_on_first_broken_item_result, message_on_first_broken_run};
+pub use broken::{first_broken_item_result_and_count_message, first_broken_run_and_count_message};
 pub use faults::explanation_why_trial_has_no_case;
 pub use item_input::ItemInput;
-pub use json_input::{files_with_json_as_trees, find_first_json_item};
+pub use json_input::{files_with_json_as_trees, find_first_line_like_json_item};
 pub use message::{
     MessageScope, has_model_at_start, input_error_messages_text, input_error_notices,
 };

@@ -1,18 +1,19 @@
 //! The messages on refused inputs.
 
 use crate::bytes::{ByteFault, byte_fault_of_sexpr_fault};
-use crate::item_hints::{is_model_tree, with_misplaced_item_hint};
-use crate::json_input::{errors_of_input_with_json_items, find_first_json_item};
+use crate::item_hints::{is_model_tree, replace_notes_by_hint_if_misplaced};
+use crate::json_input::{errors_of_input_with_json_items, find_first_line_like_json_item};
 use pst_model::Typed;
-use pst_run_problems::run_problem;
+use pst_run_problems::refused_case_or_run_problem;
 use pst_runs::{RunFault, read_runs};
 use pst_sexpr::{Form, Tree, read};
 use pst_sources::{
-    Input, Notice, Notices, SourceFile, Span, first_item, span_in, span_of, text_of, tree_at,
+    Input, Notice, Notices, SourceFile, Span, deepest_span_on_path_in_tree, head_of_first_item,
+    span_at_path_or_whole_input, text_of_notices_if_any, tree_at,
 };
 use pst_syntax::read_model;
 use pst_syntax_problems::{
-    MOST_PROBLEMS, Problem, model_syntax_problems, with_call_or_assignment_hint,
+    MOST_PROBLEMS, Problem, first_model_syntax_problems, with_call_or_assignment_hint_if_meant,
 };
 use pst_type_problems::type_problems_from_item_on;
 use pst_typing::{ModelFile, Refusal, load, trees_after_model};
@@ -50,12 +51,12 @@ fn error_notice_of_problem(alloc: Global, span: Span, problem: Problem) -> Notic
 
 /// The error on the tree of the input that has the problem `problem`.
 fn error_notice_at_tree(alloc: Global, input: &Input<'_>, problem: Problem) -> Notice {
-    let span = span_of(input.bytes, problem.path.as_slice());
+    let span = span_at_path_or_whole_input(input.bytes, problem.path.as_slice());
     error_notice_of_problem(alloc, span, problem)
 }
 
 /// The errors on the problems of a model, at most twenty.
-fn model_problem_notices(
+fn notices_on_first_model_problems(
     alloc: Global,
     input: &Input<'_>,
     problems: Vec<Problem>,
@@ -77,7 +78,7 @@ fn model_problem_notices(
 
 /// Whether a text begins with a model.
 pub fn has_model_at_start(bytes: &[u8]) -> bool {
-    matches!(first_item(bytes), Some("model" | "model2"))
+    matches!(head_of_first_item(bytes), Some("model" | "model2"))
 }
 
 /// The name of the first file that begins with a model, if the input does not.
@@ -112,8 +113,8 @@ fn problems_with_hint(
 }
 
 /// Whether a text begins with a case or a run.
-fn has_item_at_start(bytes: &[u8]) -> bool {
-    match first_item(bytes) {
+fn has_case_or_run_at_start(bytes: &[u8]) -> bool {
+    match head_of_first_item(bytes) {
         Some(head) => head == "case" || head == "run",
         None => false,
     }
@@ -124,7 +125,7 @@ fn hint_on_missing_model_file(input: &Input<'_>, trees: &[Tree]) -> Option<&'sta
     if trees.is_empty() && input.files.len() > 1 {
         return Some("hint: the model's file comes first");
     }
-    if has_item_at_start(input.bytes) && !has_model_tree(trees) {
+    if has_case_or_run_at_start(input.bytes) && !has_model_tree(trees) {
         return Some("hint: name the model's file first");
     }
     None
@@ -132,12 +133,12 @@ fn hint_on_missing_model_file(input: &Input<'_>, trees: &[Tree]) -> Option<&'sta
 
 /// The problems of a model that is refused for its form. If the input begins with no model but one of its files does, a
 /// hint names that file.
-fn form_problems_with_hints(
+fn model_form_problems_with_hints(
     alloc: Global,
     input: &Input<'_>,
     trees: &[Tree],
 ) -> Result<Vec<Problem>, AllocError> {
-    let problems = model_syntax_problems(alloc, trees)?;
+    let problems = first_model_syntax_problems(alloc, trees)?;
     if let Some(name) = name_of_misplaced_model_file(input) {
         let hint = format!(in alloc; "hint: `{name}` begins with a model: name this file first")?;
         return problems_with_hint(alloc, problems, hint.as_str());
@@ -149,20 +150,20 @@ fn form_problems_with_hints(
 }
 
 /// The problems of an ill-typed model, with hints on calls and assignments in the style of other languages.
-fn with_type_hints(
+fn with_call_or_assignment_hints(
     alloc: Global,
     model: &Form,
     problems: Vec<Problem>,
 ) -> Result<Vec<Problem>, AllocError> {
     let mut hinted = Vec::new(alloc);
     for problem in problems {
-        hinted.push(with_call_or_assignment_hint(alloc, model, problem)?)?;
+        hinted.push(with_call_or_assignment_hint_if_meant(alloc, model, problem)?)?;
     }
     Ok(hinted)
 }
 
 /// The problems of a model that was read as trees.
-fn model_problems(
+fn problems_of_refused_model(
     alloc: Global,
     input: &Input<'_>,
     refusal: &Refusal,
@@ -171,7 +172,7 @@ fn model_problems(
         return Ok(Vec::new(alloc));
     };
     match refusal {
-        Refusal::NoModel(_) => form_problems_with_hints(alloc, input, trees.as_slice()),
+        Refusal::NoModel(_) => model_form_problems_with_hints(alloc, input, trees.as_slice()),
         Refusal::IllTyped(number) => match (read_model(alloc, trees.as_slice()), trees.first()) {
             (Ok(model), Some(tree)) => {
                 let problems = type_problems_from_item_on(
@@ -180,7 +181,7 @@ fn model_problems(
                     tree.form(),
                     *number,
                 )?;
-                with_type_hints(alloc, tree.form(), problems)
+                with_call_or_assignment_hints(alloc, tree.form(), problems)
             }
             _ => Ok(Vec::new(alloc)),
         },
@@ -197,7 +198,7 @@ fn problem_of_first_refused_item(
     match read_runs(alloc, typed, trees_after_model(trees)) {
         Ok(_) => Ok(None),
         Err(fault) => match trees.get(fault.run) {
-            Some(tree) => run_problem(alloc, typed.source(), tree.form(), fault),
+            Some(tree) => refused_case_or_run_problem(alloc, typed.source(), tree.form(), fault),
             None => Ok(None),
         },
     }
@@ -216,20 +217,28 @@ fn notice_on_first_refused_item(
     let number = problem.path.first().copied().unwrap_or(0);
     let notice = error_notice_at_tree(alloc, input, problem);
     match trees.get(number) {
-        Some(tree) => Notices::one(alloc, with_misplaced_item_hint(alloc, input, tree, notice)?),
+        Some(tree) => Notices::one(
+            alloc,
+            replace_notes_by_hint_if_misplaced(alloc, input, tree, notice)?,
+        ),
         None => Notices::one(alloc, notice),
     }
 }
 
 /// The error on `problem`, which is a problem of the item at the span `item`.
-fn notice_in_item(alloc: Global, input: &Input<'_>, item: Span, problem: Problem) -> Notice {
+fn notice_on_problem_in_item(
+    alloc: Global,
+    input: &Input<'_>,
+    item: Span,
+    problem: Problem,
+) -> Notice {
     let path = problem.path.get(1..).unwrap_or(&[]);
-    let span = span_in(input.bytes, item, path);
+    let span = deepest_span_on_path_in_tree(input.bytes, item, path);
     error_notice_of_problem(alloc, span, problem)
 }
 
 /// Adds the line that counts the refused items without a message, if there are some.
-fn add_unshown_refusal_count(text: &mut String, more: usize) -> Result<(), AllocError> {
+fn add_unshown_refusal_count_if_any(text: &mut String, more: usize) -> Result<(), AllocError> {
     if more == 0 {
         return Ok(());
     }
@@ -249,10 +258,10 @@ fn notice_on_item_with_fault(
     tree: &Tree,
     fault: RunFault,
 ) -> Result<Option<Notice>, AllocError> {
-    match run_problem(alloc, typed.source(), tree.form(), fault)? {
+    match refused_case_or_run_problem(alloc, typed.source(), tree.form(), fault)? {
         Some(problem) => {
-            let notice = notice_in_item(alloc, input, item, problem);
-            Ok(Some(with_misplaced_item_hint(alloc, input, tree, notice)?))
+            let notice = notice_on_problem_in_item(alloc, input, item, problem);
+            Ok(Some(replace_notes_by_hint_if_misplaced(alloc, input, tree, notice)?))
         }
         None => Ok(None),
     }
@@ -289,7 +298,7 @@ fn notices_on_refused_items(
         }
         refused = refused.saturating_add(1);
     }
-    add_unshown_refusal_count(&mut notices.more, refused.saturating_sub(most))?;
+    add_unshown_refusal_count_if_any(&mut notices.more, refused.saturating_sub(most))?;
     Ok(notices)
 }
 
@@ -342,8 +351,8 @@ pub fn errors_of_input_without_json_items(
             Notices::one(alloc, notice)
         }
         Err(refusal) => {
-            let problems = model_problems(alloc, input, &refusal)?;
-            model_problem_notices(alloc, input, problems)
+            let problems = problems_of_refused_model(alloc, input, &refusal)?;
+            notices_on_first_model_problems(alloc, input, problems)
         }
     }
 }
@@ -355,7 +364,7 @@ pub fn input_error_notices(
     input: &Input<'_>,
     scope: MessageScope,
 ) -> Result<Notices, AllocError> {
-    match find_first_json_item(input.bytes) {
+    match find_first_line_like_json_item(input.bytes) {
         Some(place) => errors_of_input_with_json_items(alloc, input, scope, place),
         None => errors_of_input_without_json_items(alloc, input, scope),
     }
@@ -375,5 +384,5 @@ pub fn input_error_messages_text(
         bytes: input,
     };
     let errors = input_error_notices(alloc, &input, scope)?;
-    text_of(alloc, &input, &errors)
+    text_of_notices_if_any(alloc, &input, &errors)
 }

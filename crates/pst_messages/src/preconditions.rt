@@ -3,11 +3,11 @@ ghost use Rattle.std.specs.Prelude.{◌≡◌, All};
 ghost use Rattle.pst_runs.specs.Lawful.{AreLawful, IsLawful};
 
 use crate::failing::{
-    FalsePreconditionCommand, first_command_with_false_precondition,
-    has_case_call_of_marked_operation, marks_of_operations_with_preconditions,
+    FalsePreconditionCommand, does_case_call_marked_operation,
+    first_untrue_precondition_if_results_known, which_operations_have_preconditions,
 };
 use crate::item_input::ItemInput;
-use crate::places::{LocatedCommand, locate_command};
+use crate::places::{LocatedCommand, locate_and_spell_command};
 use crate::spelling::shortened_value_text;
 use crate::warning::warning_notice;
 use pst_case::Run;
@@ -40,7 +40,7 @@ struct FalsePreconditions {
 }
 
 /// The warning on a command of item `item`, counted from 1, of the input.
-fn precondition_warning(
+fn precondition_warning_or_empty(
     alloc: Global,
     subject: &WarningSubject<'_>,
     trees: &[Tree],
@@ -50,7 +50,7 @@ fn precondition_warning(
     let Some(tree) = trees.get(item) else {
         return Ok(String::new(alloc));
     };
-    match locate_command(alloc, tree.form(), item, failing.command)? {
+    match locate_and_spell_command(alloc, tree.form(), item, failing.command)? {
         Some(spot) => precondition_warning_on_located_command(
             alloc,
             subject,
@@ -88,25 +88,31 @@ fn precondition_warning_on_located_command(
     )?;
     subject
         .input
-        .notice_text_on_part(alloc, tree, spot.path.as_slice(), warning)
+        .notice_text_on_part_as_read(alloc, tree, spot.path.as_slice(), warning)
 }
 
-/// Adds the recorded run of item `item`, which the interleaving `word` explains, if it gets a warning.
-fn add_run_if_precondition_is_false<C: Callbacks>(
+/// Adds the recorded run of item `item`, which `interleaving` explains, if it gets a warning.
+fn add_run_if_precondition_untrue<C: Callbacks>(
     found: &mut FalsePreconditions,
     callbacks: &C,
     alloc: Global,
     subject: &WarningSubject<'_>,
     item: usize,
     run: &Run,
-    word: &[usize],
+    interleaving: &[usize],
 ) -> Result<(), AllocError>
     requires { IsLawful (C.model callbacks.now) run.now }
 {
-    if !has_case_call_of_marked_operation(subject.conditional.as_slice(), run.shaped.case()) {
+    if !does_case_call_marked_operation(subject.conditional.as_slice(), run.shaped.case()) {
         return Ok(());
     }
-    let Some(failing) = first_command_with_false_precondition(callbacks, alloc, run, word)? else {
+    let Some(failing) = first_untrue_precondition_if_results_known(
+        callbacks,
+        alloc,
+        run,
+        interleaving,
+    )?
+    else {
         return Ok(());
     };
     if found.count < MOST {
@@ -119,7 +125,7 @@ fn add_run_if_precondition_is_false<C: Callbacks>(
 /// The interleaving that explains a recorded run, if one does.
 fn interleaving_of_explained_verdict(judged: &Judged) -> Option<&[usize]> {
     match judged {
-        Judged::Verdict(Verdict::Explained(word)) => Some(word.as_slice()),
+        Judged::Verdict(Verdict::Explained(interleaving)) => Some(interleaving.as_slice()),
         _ => None,
     }
 }
@@ -133,7 +139,7 @@ fn precondition_warnings_text(
 ) -> Result<Option<String>, AllocError> {
     let mut text = String::new(alloc);
     for (item, failing) in found.first.as_slice() {
-        let warning = precondition_warning(alloc, subject, trees, *item, failing)?;
+        let warning = precondition_warning_or_empty(alloc, subject, trees, *item, failing)?;
         text.push_str(warning.as_str())?;
     }
     if found.count > MOST {
@@ -168,8 +174,16 @@ fn add_runs_with_false_preconditions<C: Callbacks>(
         let Some((judged, others)) = left.split_first() else {
             return Ok(());
         };
-        if let Some(word) = interleaving_of_explained_verdict(judged) {
-            add_run_if_precondition_is_false(found, callbacks, alloc, subject, item, run, word)?;
+        if let Some(interleaving) = interleaving_of_explained_verdict(judged) {
+            add_run_if_precondition_untrue(
+                found,
+                callbacks,
+                alloc,
+                subject,
+                item,
+                run,
+                interleaving,
+            )?;
         }
         item = item.saturating_add(1);
         rest = later;
@@ -209,7 +223,7 @@ fn add_false_preconditions_of_parts<C: Callbacks>(
 
 /// Adds item `item`, counted from 1, of the input if it was judged and gets a warning. `typed` is a parameter of its
 /// own, the seventh, because the contract speaks of it.
-fn add_result_if_precondition_is_false<C: Callbacks>(
+fn add_result_if_precondition_untrue<C: Callbacks>(
     found: &mut FalsePreconditions,
     callbacks: &C,
     alloc: Global,
@@ -245,13 +259,13 @@ fn add_result_if_precondition_is_false<C: Callbacks>(
 }
 
 /// The subject of the warnings on an input; `None` if the precondition of each operation is the expression `true`.
-fn subject_of_precondition_warnings<'a>(
+fn warning_subject_if_preconditions_exist<'a>(
     alloc: Global,
     typed: &'a Typed,
     input: ItemInput<'a>,
 ) -> Result<Option<WarningSubject<'a>>, AllocError> {
     let source = typed.source();
-    let conditional = marks_of_operations_with_preconditions(alloc, source.items.as_slice())?;
+    let conditional = which_operations_have_preconditions(alloc, source.items.as_slice())?;
     if !conditional.iter().any(|is_marked| *is_marked) {
         return Ok(None);
     }
@@ -263,7 +277,7 @@ fn subject_of_precondition_warnings<'a>(
 }
 
 /// No items.
-fn no_false_preconditions(alloc: Global) -> FalsePreconditions {
+fn empty_list_of_false_preconditions(alloc: Global) -> FalsePreconditions {
     FalsePreconditions {
         first: Vec::new(alloc),
         count: 0,
@@ -287,10 +301,10 @@ pub fn precondition_warnings_on_runs<C: Callbacks>(
 ) -> Result<Option<String>, AllocError>
     requires { All (λ runs. AreLawful (C.model callbacks.now) runs.items) parts.now }
 {
-    let Some(subject) = subject_of_precondition_warnings(alloc, typed, input)? else {
+    let Some(subject) = warning_subject_if_preconditions_exist(alloc, typed, input)? else {
         return Ok(None);
     };
-    let mut found = no_false_preconditions(alloc);
+    let mut found = empty_list_of_false_preconditions(alloc);
     add_false_preconditions_of_parts(&mut found, callbacks, alloc, &subject, parts, judged)?;
     if found.count == 0 {
         return Ok(None);
@@ -313,13 +327,13 @@ pub fn precondition_warnings_on_item_results<C: Callbacks>(
 ) -> Result<Option<String>, AllocError>
     requires { typed.now ≡ C.model callbacks.now }
 {
-    let Some(subject) = subject_of_precondition_warnings(alloc, typed, input)? else {
+    let Some(subject) = warning_subject_if_preconditions_exist(alloc, typed, input)? else {
         return Ok(None);
     };
-    let mut found = no_false_preconditions(alloc);
+    let mut found = empty_list_of_false_preconditions(alloc);
     for (index, answer) in answers.iter().enumerate() {
         let item = index.saturating_add(1);
-        add_result_if_precondition_is_false(
+        add_result_if_precondition_untrue(
             &mut found, callbacks, alloc, typed, &subject, trees, item, answer,
         )?;
     }

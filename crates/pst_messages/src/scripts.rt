@@ -1,7 +1,7 @@
 //! Generated scripts of a model: which operations they call, and which of them fault.
 ghost use Rattle.std.specs.Prelude.{◌≤◌};
 
-use crate::bounded::StepLimitedRecorder;
+use crate::bounded::StepLimitedCommandRecorder;
 use pst_case::Command;
 use pst_compile::Compiled;
 use pst_eval::FaultPlace;
@@ -18,7 +18,7 @@ pub const SCRIPTS: u32 = 16;
 /// The greatest number of commands of a script.
 pub const COMMANDS: u32 = 16;
 
-/// How many steps the callbacks may take before the generation of scripts for warnings ends, as `StepLimitedRecorder` counts them.
+/// How many steps the callbacks may take before the generation of scripts for warnings ends, as `StepLimitedCommandRecorder` counts them.
 /// A call that has begun runs to its end.
 const STEPS: u64 = 1_000_000;
 
@@ -59,7 +59,7 @@ pub struct ScriptSummary {
 
 /// Generates the script of trial `number`. `seed` and `number` choose its random words. `steps` are the steps that the
 /// callbacks may take, and afterwards the steps that are left.
-fn generate_script(
+fn generate_script_within_steps(
     alloc: Global,
     compiled: &Compiled,
     seed: u64,
@@ -70,7 +70,7 @@ fn generate_script(
     requires some { 1 ≤ commands }
     requires few { commands ≤ 64 }
 {
-    let callbacks = StepLimitedRecorder::new(alloc, compiled, *steps);
+    let callbacks = StepLimitedCommandRecorder::new(alloc, compiled, *steps);
     let mut words = Pcg64::new(seed as u128, number as u128);
     let generated = generate(
         &callbacks,
@@ -95,7 +95,7 @@ fn generate_script(
 
 /// The script of trial `number` if a callback faults in it, so that the trial has no case. `seed` and `number` choose
 /// its random words, and `commands` is the greatest number of its commands.
-pub fn faulty_script_of_trial(
+pub fn find_faulty_script_of_trial(
     alloc: Global,
     compiled: &Compiled,
     seed: u64,
@@ -106,14 +106,14 @@ pub fn faulty_script_of_trial(
     requires few { commands ≤ 64 }
 {
     let mut steps = u64::MAX;
-    match generate_script(alloc, compiled, seed, number, commands, &mut steps)? {
+    match generate_script_within_steps(alloc, compiled, seed, number, commands, &mut steps)? {
         GeneratedScript::Faulty(script) => Ok(Some(script)),
         _ => Ok(None),
     }
 }
 
 /// A mark for each operation of a model, in their order, none of them set.
-fn all_operations_unmarked(alloc: Global, typed: &Typed) -> Result<Vec<bool>, AllocError> {
+fn list_of_unset_operation_marks(alloc: Global, typed: &Typed) -> Result<Vec<bool>, AllocError> {
     let mut marks = Vec::new(alloc);
     for item in typed.source().items.as_slice() {
         if let Item::Op(_) = item {
@@ -134,7 +134,7 @@ fn mark_called_operations(marks: &mut Vec<bool>, commands: &[Command]) {
 
 impl ScriptSummary {
     /// Adds a script. A cut one is not counted.
-    fn add_script(&mut self, script: GeneratedScript) {
+    fn add_script_or_mark_cut(&mut self, script: GeneratedScript) {
         match script {
             GeneratedScript::Whole(valid) => {
                 let case = valid.shaped().case();
@@ -156,12 +156,12 @@ impl ScriptSummary {
 }
 
 /// Generates scripts of a model, always of the same random words, up to a limit on the scripts and on the steps.
-pub fn summary_of_generated_scripts(
+pub fn generate_and_summarize_scripts(
     alloc: Global,
     compiled: &Compiled,
 ) -> Result<ScriptSummary, AllocError> {
     let mut scripts = ScriptSummary {
-        called: all_operations_unmarked(alloc, compiled.typed())?,
+        called: list_of_unset_operation_marks(alloc, compiled.typed())?,
         count: 0,
         faulty: 0,
         first_faulty: None,
@@ -169,8 +169,15 @@ pub fn summary_of_generated_scripts(
     };
     let mut steps = STEPS;
     for number in 0..SCRIPTS {
-        let script = generate_script(alloc, compiled, 0, u64::from(number), COMMANDS, &mut steps)?;
-        scripts.add_script(script);
+        let script = generate_script_within_steps(
+            alloc,
+            compiled,
+            0,
+            u64::from(number),
+            COMMANDS,
+            &mut steps,
+        )?;
+        scripts.add_script_or_mark_cut(script);
         if scripts.is_cut {
             break;
         }

@@ -1,6 +1,7 @@
 //! Values as warnings show them.
 
 use pst_model::{Source, operation_of};
+use pst_syntax_problems::write_quoted_and_escaped;
 use pst_value::{Key, Value};
 use std::alloc::{AllocError, Global};
 use std::fmt;
@@ -8,28 +9,16 @@ use std::fmt;
 /// The greatest number of bytes of a value in a warning.
 const MOST: usize = 60;
 
-/// Writes a text between quotes.
-fn write_quoted_text<W: fmt::Write>(f: &mut fmt::Formatter<W>, text: &str) -> fmt::Result {
-    f.write_str("\"")?;
-    for character in text.chars() {
-        if character == '"' || character == '\\' {
-            f.write_str("\\")?;
-        }
-        write!(f, "{character}")?;
-    }
-    f.write_str("\"")
-}
-
 /// Writes a key of a map.
-fn write_map_key<W: fmt::Write>(f: &mut fmt::Formatter<W>, key: &Key) -> fmt::Result {
+fn write_map_key_for_warning<W: fmt::Write>(f: &mut fmt::Formatter<W>, key: &Key) -> fmt::Result {
     match key {
         Key::Int(number) => write!(f, "{number}"),
         Key::Bool(truth) => write!(f, "{truth}"),
-        Key::Text(text) => write_quoted_text(f, text.as_str()),
+        Key::Text(text) => write_quoted_and_escaped(f, text.as_str()),
     }
 }
 
-/// The name of operation `number`, counted from 0, or an empty text if there is none.
+/// The name of operation `number`, counted from 0. Empty if the model has no such operation.
 fn operation_name_or_empty(model: &Source, number: u32) -> &str {
     match operation_of(model.items.as_slice(), number as usize) {
         Some(operation) => operation.name.as_str(),
@@ -47,12 +36,12 @@ struct SpelledValue<'a> {
 
 impl fmt::Display for SpelledValue<'_> {
     fn fmt<W: fmt::Write>(&self, f: &mut fmt::Formatter<W>) -> fmt::Result {
-        write_value(f, self.model, self.value)
+        write_value_for_warning(f, self.model, self.value)
     }
 }
 
-#[cycle(write_value)]
-fn write_value<W: fmt::Write>(
+#[cycle(write_value_for_warning)]
+fn write_value_for_warning<W: fmt::Write>(
     f: &mut fmt::Formatter<W>,
     model: &Source,
     value: &Value,
@@ -60,19 +49,19 @@ fn write_value<W: fmt::Write>(
     match value {
         Value::Int(number) => write!(f, "{number}"),
         Value::Bool(truth) => write!(f, "{truth}"),
-        Value::Text(text) => write_quoted_text(f, text.as_str()),
-        Value::Tuple(parts) => write_node_of_values(f, model, "tuple", parts.as_slice()),
-        Value::List(parts) => write_node_of_values(f, model, "list", parts.as_slice()),
+        Value::Text(text) => write_quoted_and_escaped(f, text.as_str()),
+        Value::Tuple(parts) => write_node_for_warning(f, model, "tuple", parts.as_slice()),
+        Value::List(parts) => write_node_for_warning(f, model, "list", parts.as_slice()),
         Value::Map(keys, values) => {
-            write_map(f, model, keys.get().as_slice(), values.get().as_slice())
+            write_map_for_warning(f, model, keys.get().as_slice(), values.get().as_slice())
         }
         Value::Var(number) => write!(f, "${number}"),
         Value::Ref(number, value) => {
             write!(f, "${number}=")?;
-            write_value(f, model, value.get())
+            write_value_for_warning(f, model, value.get())
         }
         Value::Call(operation, args) => {
-            write_node_of_values(
+            write_node_for_warning(
                 f,
                 model,
                 operation_name_or_empty(model, *operation),
@@ -83,8 +72,8 @@ fn write_value<W: fmt::Write>(
 }
 
 /// Writes `head` and then `values`, in brackets.
-#[cycle(write_value)]
-fn write_node_of_values<W: fmt::Write>(
+#[cycle(write_value_for_warning)]
+fn write_node_for_warning<W: fmt::Write>(
     f: &mut fmt::Formatter<W>,
     model: &Source,
     head: &str,
@@ -93,14 +82,14 @@ fn write_node_of_values<W: fmt::Write>(
     write!(f, "({head}")?;
     for value in values {
         f.write_str(" ")?;
-        write_value(f, model, value)?;
+        write_value_for_warning(f, model, value)?;
     }
     f.write_str(")")
 }
 
 /// Writes a map with its entries.
-#[cycle(write_value)]
-fn write_map<W: fmt::Write>(
+#[cycle(write_value_for_warning)]
+fn write_map_for_warning<W: fmt::Write>(
     f: &mut fmt::Formatter<W>,
     model: &Source,
     keys: &[Key],
@@ -109,9 +98,9 @@ fn write_map<W: fmt::Write>(
     f.write_str("(map")?;
     for (key, value) in keys.iter().zip(values.iter()) {
         f.write_str(" (")?;
-        write_map_key(f, key)?;
+        write_map_key_for_warning(f, key)?;
         f.write_str(" ")?;
-        write_value(f, model, value)?;
+        write_value_for_warning(f, model, value)?;
         f.write_str(")")?;
     }
     f.write_str(")")

@@ -1,12 +1,14 @@
 //! The warnings on an input.
 
-use crate::faults::faulty_scripts_warning;
+use crate::faults::faulty_scripts_warning_if_any;
 use crate::item_hints::is_model_tree;
-use crate::scripts::{COMMANDS, SCRIPTS, summary_of_generated_scripts};
+use crate::scripts::{COMMANDS, SCRIPTS, generate_and_summarize_scripts};
 use pst_compile::{Compiled, compile};
 use pst_model::Item;
 use pst_sexpr::Tree;
-use pst_sources::{Input, Notice, Notices, SourceFile, span_of, text_of};
+use pst_sources::{
+    Input, Notice, Notices, SourceFile, span_at_path_or_whole_input, text_of_notices_if_any,
+};
 use pst_typing::{ModelFile, load, trees_after_model};
 use std::alloc::{AllocError, Global};
 use std::fmt::Display;
@@ -22,7 +24,7 @@ pub fn warning_notice<D: Display + Drop, N: Display + Drop>(
     let mut notes = Vec::new(alloc);
     notes.push(format!(in alloc; "{note}")?)?;
     Ok(Notice {
-        span: span_of(input.bytes, path),
+        span: span_at_path_or_whole_input(input.bytes, path),
         is_warning: true,
         what: format!(in alloc; "{what}")?,
         notes,
@@ -31,7 +33,7 @@ pub fn warning_notice<D: Display + Drop, N: Display + Drop>(
 }
 
 /// The number of the tree of item `item`, counted from 0, in its model. The head and the name of the model come first.
-pub fn tree_number_of_item(item: usize) -> usize {
+pub fn tree_number_of_model_item(item: usize) -> usize {
     item.saturating_add(2)
 }
 
@@ -50,7 +52,7 @@ fn no_initial_call_warning(
     warning_notice(
         alloc,
         input,
-        &[0, tree_number_of_item(place)],
+        &[0, tree_number_of_model_item(place)],
         "no call may be made at first",
         "`command` lists none in the initial state, or the precondition of each is false there",
     )
@@ -66,7 +68,7 @@ fn uncalled_operation_warning(
     warning_notice(
         alloc,
         input,
-        &[0, tree_number_of_item(item), 1],
+        &[0, tree_number_of_model_item(item), 1],
         format_args!("none of {SCRIPTS} generated scripts of {COMMANDS} commands calls `{name}`"),
         "`command` does not list it in their states, or its precondition is false there",
     )
@@ -94,16 +96,16 @@ fn warnings_on_uncalled_operations(
 
 /// The warnings on generated scripts of a model. If not all scripts are generated, there are no warnings on operations
 /// that none of them calls.
-fn script_warnings(
+fn warnings_from_generated_scripts(
     alloc: Global,
     input: &Input<'_>,
     compiled: &Compiled,
 ) -> Result<Vec<Notice>, AllocError> {
     let typed = compiled.typed();
     let items = typed.source().items.as_slice();
-    let scripts = summary_of_generated_scripts(alloc, compiled)?;
+    let scripts = generate_and_summarize_scripts(alloc, compiled)?;
     if scripts.faulty > 0 {
-        return faulty_scripts_warning(alloc, input, typed, scripts);
+        return faulty_scripts_warning_if_any(alloc, input, typed, scripts);
     }
     let mut warnings = Vec::new(alloc);
     if scripts.is_cut {
@@ -154,7 +156,7 @@ pub fn input_warning_notices(alloc: Global, input: &Input<'_>) -> Result<Notices
     let Ok(compiled) = compile(alloc, typed) else {
         return Err(AllocError);
     };
-    let mut all = script_warnings(alloc, input, &compiled)?;
+    let mut all = warnings_from_generated_scripts(alloc, input, &compiled)?;
     add_further_model_warnings(alloc, input, trees.as_slice(), &mut all)?;
     Ok(Notices {
         all,
@@ -174,5 +176,5 @@ pub fn input_warnings_text(
         bytes: input,
     };
     let warnings = input_warning_notices(alloc, &input)?;
-    text_of(alloc, &input, &warnings)
+    text_of_notices_if_any(alloc, &input, &warnings)
 }

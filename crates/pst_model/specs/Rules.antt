@@ -1,7 +1,7 @@
 -- The typing rules of expressions.
 use Rattle.std.specs.Prelude.{◌≡◌, ◌||◌, not, ℕ, ℤ, ◌^◌, nat_lt, nat_le, Bool, true, false, if◌then◌else◌, List, [], ◌∷◌, length, map, Option, Some, None}
 use Rattle.std.specs.Str.{bytes_eq}
-use Rattle.pst_model.specs.Kinds.{holds_ref}
+use Rattle.pst_model.specs.Kinds.{holds_ref_or_call}
 use Rattle.pst_model.specs.Parts.{Name, operation_number, operation_of, types_of}
 use Rattle.pst_model.specs.declared.expr.Binary.{Binary}
 use Rattle.pst_model.specs.declared.expr.Binary.TheVariants.{Add, Sub, Mul, Div, Rem, Less, LessEqual, Equal, Same, Append, Nth, Range, Get, Has as HasKey, Del}
@@ -75,7 +75,7 @@ pub data OperatesOnTwo (post : Bool) : Binary → Ty → Ty → Ty → Type 0 wh
   operates_arithmetic : (op : Binary) → is_arithmetic op ≡ true → OperatesOnTwo post op ty.Int ty.Int ty.Int
   operates_order_int : (op : Binary) → is_order op ≡ true → OperatesOnTwo post op ty.Int ty.Int ty.Bool
   operates_order_text : (op : Binary) → is_order op ≡ true → OperatesOnTwo post op ty.Text ty.Text ty.Bool
-  operates_equal : (T : Ty) → (post || not (holds_ref T)) ≡ true → OperatesOnTwo post Equal T T ty.Bool
+  operates_equal : (T : Ty) → (post || not (holds_ref_or_call T)) ≡ true → OperatesOnTwo post Equal T T ty.Bool
   operates_same : (T : Ty) → OperatesOnTwo post Same (ty.Ref T) (ty.Ref T) ty.Bool
   operates_append_text : OperatesOnTwo post Append ty.Text ty.Text ty.Text
   operates_append_list : (T : Ty) → OperatesOnTwo post Append (ty.List T) (ty.List T) (ty.List T)

@@ -10,7 +10,7 @@ use Rattle.pst_model.specs.declared.model.Item.{Item}
 use Rattle.pst_model.specs.declared.model.Item.TheVariants as item
 use Rattle.pst_model.specs.declared.model.Op.{Op}
 use Rattle.pst_model.specs.declared.model.Source.{Source}
-use Rattle.pst_model.specs.Kinds.{holds_ref, holds_call}
+use Rattle.pst_model.specs.Kinds.{holds_ref_or_call, holds_call}
 use Rattle.pst_model.specs.Rules.{Context, context_of, Has, Typed}
 use Rattle.pst_value.specs.declared.ty.Ty.{Ty}
 use Rattle.pst_value.specs.declared.ty.Ty.TheVariants as ty
@@ -43,7 +43,7 @@ all_of items = reverse items
 -- types
 pub record WellOperation (items : List Item) (S : Ty) (o : Op) : Type 0 where
   pub parameters : list_any holds_call (types_of o.params) ≡ false
-  pub result : holds_ref o.result ≡ false
+  pub result : holds_ref_or_call o.result ≡ false
   pub pre : Typed items (all_of items) false (Has (pre_context S o) o.pre ty.Bool)
   pub next : Typed items (all_of items) false (Has (next_context S o) o.next S)
   pub post : Typed items (all_of items) true (Has (post_context S o) o.post ty.Bool)

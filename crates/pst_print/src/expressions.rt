@@ -10,11 +10,11 @@ use crate::nodes::{list_of_three_forms, list_of_two_forms, prepend_form, print_n
 use crate::types::{print_map_type, ty_form};
 use crate::words::{binary_operator_word, unary_operator_word};
 use pst_model::{Clause, Expr};
-use pst_sexpr::{Form, headed, list_of, word};
+use pst_sexpr::{Form, headed, list_of_one_form, word};
 use pst_value::{Boxed, Items, KeyTy, Text, Ty};
 use std::alloc::{AllocError, Global};
 
-fn print_integer(alloc: Global, number: i64) -> Result<Form, AllocError>
+fn print_integer_literal(alloc: Global, number: i64) -> Result<Form, AllocError>
     ensures { IfOk result (λ form. form ≡ Word (signed_decimal number)) }
 {
     Ok(Form::Word(Text::from_string(format!(in alloc; "{number}")?)))
@@ -26,7 +26,7 @@ fn print_tuple_place(alloc: Global, number: u64) -> Result<Form, AllocError>
     Ok(Form::Word(Text::from_string(format!(in alloc; "{number}")?)))
 }
 
-fn print_bool(alloc: Global, holds: bool) -> Result<Form, AllocError>
+fn print_bool_literal(alloc: Global, holds: bool) -> Result<Form, AllocError>
     ensures { IfOk result (λ form. form ≡ Word (truth_word holds)) }
 {
     if holds {
@@ -37,14 +37,19 @@ fn print_bool(alloc: Global, holds: bool) -> Result<Form, AllocError>
 }
 
 /// A node of a word and two trees.
-fn node_of_two(alloc: Global, head: &str, first: Form, second: Form) -> Result<Form, AllocError>
+fn node_with_two_parts(
+    alloc: Global,
+    head: &str,
+    first: Form,
+    second: Form,
+) -> Result<Form, AllocError>
     ensures { IfOk result (λ form. form ≡ headed head.now (first ∷ second ∷ [])) }
 {
     headed(alloc, head, list_of_two_forms(alloc, first, second)?)
 }
 
 /// A node of a word and three trees.
-fn node_of_three(
+fn node_with_three_parts(
     alloc: Global,
     head: &str,
     first: Form,
@@ -58,11 +63,11 @@ fn node_of_three(
 }
 
 /// An item of a tuple, by its place from 0.
-fn at_node(alloc: Global, tuple: Form, number: u64) -> Result<Form, AllocError>
+fn tuple_item_node(alloc: Global, tuple: Form, number: u64) -> Result<Form, AllocError>
     ensures { IfOk result (λ form. form ≡ headed (codes "at") (tuple ∷ Word (decimal number) ∷ [])) }
 {
     let place = print_tuple_place(alloc, number)?;
-    node_of_two(alloc, "at", tuple, place)
+    node_with_two_parts(alloc, "at", tuple, place)
 }
 
 /// A list of items of a type.
@@ -113,41 +118,47 @@ pub fn expr_form(alloc: Global, expr: &Expr) -> Result<Form, AllocError>
     ensures { IfOk result (λ form. form ≡ expr_form expr.now) }
 {
     match expr {
-        Expr::Int(number) => print_integer(alloc, *number),
-        Expr::Bool(holds) => print_bool(alloc, *holds),
+        Expr::Int(number) => print_integer_literal(alloc, *number),
+        Expr::Bool(holds) => print_bool_literal(alloc, *holds),
         Expr::Text(text) => Ok(Form::Text(text.copy(alloc)?)),
         Expr::Name(bound) => print_name(alloc, bound),
-        Expr::Let(bound, value, body) => print_let(alloc, body, bound, form_of(alloc, value)?),
+        Expr::Let(bound, value, body) => print_let(alloc, body, bound, print_boxed(alloc, value)?),
         Expr::If(test, yes, no) => {
-            let test = form_of(alloc, test)?;
-            print_third(alloc, no, "if", test, form_of(alloc, yes)?)
+            let test = print_boxed(alloc, test)?;
+            print_node_of_three(alloc, no, "if", test, print_boxed(alloc, yes)?)
         }
-        Expr::And(a, b) => print_second(alloc, b, "and", form_of(alloc, a)?),
-        Expr::Or(a, b) => print_second(alloc, b, "or", form_of(alloc, a)?),
-        Expr::Unary(operator, a) => print_one(alloc, unary_operator_word(*operator), a),
+        Expr::And(a, b) => print_node_of_two(alloc, b, "and", print_boxed(alloc, a)?),
+        Expr::Or(a, b) => print_node_of_two(alloc, b, "or", print_boxed(alloc, a)?),
+        Expr::Unary(operator, a) => print_node_of_one(alloc, unary_operator_word(*operator), a),
         Expr::Binary(operator, a, b) => {
-            print_second(
+            print_node_of_two(
                 alloc,
                 b,
                 binary_operator_word(*operator),
-                form_of(alloc, a)?,
+                print_boxed(alloc, a)?,
             )
         }
         Expr::Tuple(parts) => headed(alloc, "tuple", print_expressions(alloc, parts.as_slice())?),
-        Expr::At(tuple, number) => at_node(alloc, form_of(alloc, tuple)?, *number),
+        Expr::At(tuple, number) => tuple_item_node(alloc, print_boxed(alloc, tuple)?, *number),
         Expr::List(ty, items) => list_node(alloc, ty, print_expressions(alloc, items.as_slice())?),
         Expr::For(clauses, body) => {
             let clauses = Form::Node(print_clauses(alloc, clauses.as_slice())?);
-            print_second(alloc, body, "for", clauses)
+            print_node_of_two(alloc, body, "for", clauses)
         }
         Expr::Fold(bound, items, built, first, body) => {
-            let items = form_of(alloc, items)?;
-            print_fold(alloc, body, (bound, built), items, form_of(alloc, first)?)
+            let items = print_boxed(alloc, items)?;
+            print_fold(
+                alloc,
+                body,
+                (bound, built),
+                items,
+                print_boxed(alloc, first)?,
+            )
         }
         Expr::Map(kind, ty) => print_empty_map(alloc, *kind, ty),
         Expr::Put(map, key, value) => {
-            let map = form_of(alloc, map)?;
-            print_third(alloc, value, "put", map, form_of(alloc, key)?)
+            let map = print_boxed(alloc, map)?;
+            print_node_of_three(alloc, value, "put", map, print_boxed(alloc, key)?)
         }
         Expr::Call(called, args) => {
             call_node(alloc, called, print_expressions(alloc, args.as_slice())?)
@@ -164,16 +175,16 @@ pub fn expr_form(alloc: Global, expr: &Expr) -> Result<Form, AllocError>
 
 /// A node of a word and a part of an expression.
 #[cycle(expr_form)]
-fn print_one(alloc: Global, head: &str, part: &Boxed<Expr>) -> Result<Form, AllocError>
+fn print_node_of_one(alloc: Global, head: &str, part: &Boxed<Expr>) -> Result<Form, AllocError>
     ensures { IfOk result (λ form. form ≡ headed head.now (expr_form part.now ∷ [])) }
 {
-    let part = form_of(alloc, part)?;
-    headed(alloc, head, list_of(alloc, part)?)
+    let part = print_boxed(alloc, part)?;
+    headed(alloc, head, list_of_one_form(alloc, part)?)
 }
 
 /// A node of a word, a tree and a part of an expression.
 #[cycle(expr_form)]
-fn print_second(
+fn print_node_of_two(
     alloc: Global,
     second: &Boxed<Expr>,
     head: &str,
@@ -181,12 +192,12 @@ fn print_second(
 ) -> Result<Form, AllocError>
     ensures { IfOk result (λ form. form ≡ headed head.now (first ∷ expr_form second.now ∷ [])) }
 {
-    node_of_two(alloc, head, first, form_of(alloc, second)?)
+    node_with_two_parts(alloc, head, first, print_boxed(alloc, second)?)
 }
 
 /// A node of a word, two trees and a part of an expression.
 #[cycle(expr_form)]
-fn print_third(
+fn print_node_of_three(
     alloc: Global,
     third: &Boxed<Expr>,
     head: &str,
@@ -196,7 +207,7 @@ fn print_third(
     ensures { IfOk result
         (λ form. form ≡ headed head.now (first ∷ second ∷ expr_form third.now ∷ [])) }
 {
-    node_of_three(alloc, head, first, second, form_of(alloc, third)?)
+    node_with_three_parts(alloc, head, first, second, print_boxed(alloc, third)?)
 }
 
 /// A `let`: a name, its value and a body.
@@ -210,8 +221,8 @@ fn print_let(
     ensures { IfOk result
         (λ form. form ≡ headed (codes "let") (Word bound.now ∷ value ∷ expr_form body.now ∷ [])) }
 {
-    let body = form_of(alloc, body)?;
-    node_of_three(alloc, "let", print_name(alloc, bound)?, value, body)
+    let body = print_boxed(alloc, body)?;
+    node_with_three_parts(alloc, "let", print_name(alloc, bound)?, value, body)
 }
 
 /// A fold, by the names of an item and of what is built.
@@ -226,12 +237,12 @@ fn print_fold(
     ensures { IfOk result (λ form. form ≡ headed (codes "fold") (Word names.entry.0.now ∷ items
         ∷ Word names.entry.1.now ∷ first ∷ expr_form body.now ∷ [])) }
 {
-    fold_node(alloc, names, items, first, form_of(alloc, body)?)
+    fold_node(alloc, names, items, first, print_boxed(alloc, body)?)
 }
 
 /// The tree of a part of an expression.
 #[cycle(expr_form)]
-fn form_of(alloc: Global, part: &Boxed<Expr>) -> Result<Form, AllocError>
+fn print_boxed(alloc: Global, part: &Boxed<Expr>) -> Result<Form, AllocError>
     ensures { IfOk result (λ form. form ≡ expr_form part.now) }
 {
     expr_form(alloc, part.get())
@@ -272,7 +283,7 @@ fn print_clause(alloc: Global, clause: &Clause) -> Result<Form, AllocError>
         }
         Clause::When(condition) => {
             let condition = expr_form(alloc, condition)?;
-            headed(alloc, "when", list_of(alloc, condition)?)
+            headed(alloc, "when", list_of_one_form(alloc, condition)?)
         }
     }
 }

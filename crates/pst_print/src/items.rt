@@ -7,7 +7,7 @@ use crate::nodes::{list_of_three_forms, list_of_two_forms, prepend_form, print_n
 use crate::types::ty_form;
 use crate::words::model_head_word;
 use pst_model::{Expr, Fun, Item, Op, Param, Source};
-use pst_sexpr::{Form, headed, list_of};
+use pst_sexpr::{Form, headed, list_of_one_form};
 use pst_value::{Items, Text, Ty};
 use std::alloc::{AllocError, Global};
 
@@ -29,7 +29,7 @@ fn print_parameters(alloc: Global, params: &[Param]) -> Result<Form, AllocError>
 }
 
 /// A name, parameters and a result, and then others.
-fn print_signature(
+fn prepend_signature(
     alloc: Global,
     declared: &Text,
     params: &[Param],
@@ -46,9 +46,9 @@ fn print_signature(
 fn print_function(alloc: Global, function: &Fun) -> Result<Form, AllocError>
     ensures { IfOk result (λ form. form ≡ spec.fun_form function.now) }
 {
-    let body = list_of(alloc, expr_form(alloc, &function.body)?)?;
+    let body = list_of_one_form(alloc, expr_form(alloc, &function.body)?)?;
     let params = function.params.as_slice();
-    let parts = print_signature(alloc, &function.name, params, &function.result, body)?;
+    let parts = prepend_signature(alloc, &function.name, params, &function.result, body)?;
     if function.is_post {
         headed(alloc, "postfun", parts)
     } else {
@@ -60,7 +60,11 @@ fn print_function(alloc: Global, function: &Fun) -> Result<Form, AllocError>
 fn print_headed_expression(alloc: Global, head: &str, expr: &Expr) -> Result<Form, AllocError>
     ensures { IfOk result (λ form. form ≡ spec.single head.now expr.now) }
 {
-    headed(alloc, head, list_of(alloc, expr_form(alloc, expr)?)?)
+    headed(
+        alloc,
+        head,
+        list_of_one_form(alloc, expr_form(alloc, expr)?)?,
+    )
 }
 
 fn print_operation(alloc: Global, operation: &Op) -> Result<Form, AllocError>
@@ -71,7 +75,7 @@ fn print_operation(alloc: Global, operation: &Op) -> Result<Form, AllocError>
     let post = print_headed_expression(alloc, "post", &operation.post)?;
     let callbacks = list_of_three_forms(alloc, pre, next, post)?;
     let params = operation.params.as_slice();
-    let parts = print_signature(alloc, &operation.name, params, &operation.result, callbacks)?;
+    let parts = prepend_signature(alloc, &operation.name, params, &operation.result, callbacks)?;
     headed(alloc, "op", parts)
 }
 
@@ -79,7 +83,11 @@ fn print_item(alloc: Global, item: &Item) -> Result<Form, AllocError>
     ensures { IfOk result (λ form. form ≡ spec.item_form item.now) }
 {
     match item {
-        Item::State(ty) => headed(alloc, "state", list_of(alloc, ty_form(alloc, ty)?)?),
+        Item::State(ty) => headed(
+            alloc,
+            "state",
+            list_of_one_form(alloc, ty_form(alloc, ty)?)?,
+        ),
         Item::Init(expr) => print_headed_expression(alloc, "init", expr),
         Item::Command(expr) => print_headed_expression(alloc, "command", expr),
         Item::Fun(function) => print_function(alloc, function),
@@ -91,7 +99,7 @@ fn print_item(alloc: Global, item: &Item) -> Result<Form, AllocError>
 pub fn print_source(alloc: Global, source: &Source) -> Result<Form, AllocError>
     ensures { IfOk result (λ form. form ≡ spec.source_form source.now) }
 {
-    let mut forms = list_of(alloc, print_name(alloc, &source.name)?)?;
+    let mut forms = list_of_one_form(alloc, print_name(alloc, &source.name)?)?;
     for item in source.items.as_slice() {
         forms.push(print_item(alloc, item)?)?;
     }

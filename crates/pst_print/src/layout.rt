@@ -2,7 +2,7 @@
 
 use crate::measure::Measure;
 use crate::style::{Rule, Style, headless_node_layout_style, node_layout_style};
-use crate::tokens::{Kind, Token, token_bytes};
+use crate::tokens::{Kind, Token, trimmed_token_bytes};
 use std::alloc::{AllocError, Global};
 
 /// The columns of a line.
@@ -69,7 +69,11 @@ impl<'a> Layout<'a> {
     }
 
     /// Begins a line with `indent` spaces, after an empty line if `has_blank`. Adds nothing at the start of the text.
-    fn begin_line(&mut self, indent: usize, has_blank: bool) -> Result<(), AllocError> {
+    fn begin_line_unless_first(
+        &mut self,
+        indent: usize,
+        has_blank: bool,
+    ) -> Result<(), AllocError> {
         self.after_comment = false;
         if self.text.is_empty() {
             return Ok(());
@@ -104,7 +108,7 @@ impl<'a> Layout<'a> {
     }
 
     /// Whether token `number` begins a line in the file.
-    fn token_begins_line(&self, number: usize) -> bool {
+    fn token_begins_input_line(&self, number: usize) -> bool {
         match self.tokens.get(number) {
             Some(token) => token.lines > 0,
             None => false,
@@ -112,7 +116,7 @@ impl<'a> Layout<'a> {
     }
 
     /// Whether a part of the node that begins with token `number` begins a line in the file.
-    fn node_has_part_on_new_line(&self, number: usize) -> bool {
+    fn node_is_split_in_input(&self, number: usize) -> bool {
         match self.measures.get(number) {
             Some(measure) => measure.has_lines,
             None => false,
@@ -120,32 +124,38 @@ impl<'a> Layout<'a> {
     }
 
     /// The head word of the node that begins with token `number`.
-    fn head(&self, number: usize) -> Option<&'a [u8]> {
+    fn head_word_at_token(&self, number: usize) -> Option<&'a [u8]> {
         match self.tokens.get(number.saturating_add(1)) {
-            Some(token) if token.kind == Kind::Atom => Some(token_bytes(self.input, token)),
+            Some(token) if token.kind == Kind::Atom => Some(trimmed_token_bytes(self.input, token)),
             _ => None,
         }
     }
 
     /// Whether the node that begins with token `number` is the state or the initial state of a model.
     fn is_state_or_init_node(&self, number: usize) -> bool {
-        matches!(self.head(number), Some(b"state") | Some(b"init"))
+        matches!(
+            self.head_word_at_token(number),
+            Some(b"state") | Some(b"init")
+        )
     }
 
     /// Whether the node that begins with token `number` is a case or a recorded run without a comment in it. If it is
     /// on one line in the file, it stays on one, however long that is.
-    fn is_uncommented_case_or_run(&self, number: usize) -> bool {
+    fn is_outermost_uncommented_case_or_run(&self, number: usize) -> bool {
         let has_comment = match self.measures.get(number) {
             Some(measure) => measure.has_comment,
             None => false,
         };
         self.frames.is_empty()
             && !has_comment
-            && matches!(self.head(number), Some(b"case") | Some(b"run"))
+            && matches!(
+                self.head_word_at_token(number),
+                Some(b"case") | Some(b"run")
+            )
     }
 
     /// Whether the innermost open node is on one line.
-    fn is_in_flat(&self) -> bool {
+    fn is_in_one_line_node(&self) -> bool {
         match self.frames.last() {
             Some(frame) => frame.is_flat,
             None => false,
@@ -153,11 +163,12 @@ impl<'a> Layout<'a> {
     }
 
     /// Whether the part that begins with token `number` stays on the line. The part is not the head of its node.
-    fn stays_on_line(&self, frame: &Frame, number: usize) -> bool {
+    fn part_stays_on_line(&self, frame: &Frame, number: usize) -> bool {
         if frame.is_flat {
             return true;
         }
-        let begins_line = frame.style.rule.keeps_lines() && self.token_begins_line(number);
+        let begins_line = frame.style.rule.keeps_input_line_breaks()
+            && self.token_begins_input_line(number);
         let fits = !begins_line
             && !frame.was_broken
             && self.tree_fits_on_line(number, self.column.saturating_add(1));
@@ -178,7 +189,7 @@ impl<'a> Layout<'a> {
             Separator::Line(frame.style.indent)
         } else if frame.parts == 0 {
             Separator::None
-        } else if self.stays_on_line(frame, number) {
+        } else if self.part_stays_on_line(frame, number) {
             Separator::Space
         } else {
             Separator::Line(frame.style.indent)
@@ -186,17 +197,21 @@ impl<'a> Layout<'a> {
     }
 
     /// Separates a token from the one before it. Keeps empty lines between trees and between items of a model.
-    fn separate_token(&mut self, number: usize, token: &Token) -> Result<(), AllocError> {
+    fn add_separator_before_token(
+        &mut self,
+        number: usize,
+        token: &Token,
+    ) -> Result<(), AllocError> {
         let has_blank = token.lines > 1 && self.frames.len() <= 1;
         match self.separator_before_tree(number) {
             Separator::None => Ok(()),
             Separator::Space => self.add_bytes_to_line(b" "),
-            Separator::Line(indent) => self.begin_line(indent, has_blank),
+            Separator::Line(indent) => self.begin_line_unless_first(indent, has_blank),
         }
     }
 
     /// Notes that a part of the innermost node begins or, if `was_broken`, that a part ended on several lines.
-    fn note_part_begun_or_ended(&mut self, was_broken: bool) {
+    fn note_part_begun_or_broken(&mut self, was_broken: bool) {
         if let Some(frame) = self.frames.last_mut() {
             frame.was_broken = was_broken;
             if !was_broken {
@@ -208,14 +223,14 @@ impl<'a> Layout<'a> {
     /// Opens the node that begins with token `number`.
     fn open_node(&mut self, number: usize) -> Result<(), AllocError> {
         let column = self.column;
-        let style = match self.head(number) {
+        let style = match self.head_word_at_token(number) {
             Some(head) => node_layout_style(head, column),
             None => headless_node_layout_style(column),
         };
-        let is_kept = style.rule.keeps_lines() && self.node_has_part_on_new_line(number);
+        let is_kept = style.rule.keeps_input_line_breaks() && self.node_is_split_in_input(number);
         let fits = self.tree_fits_on_line(number, column)
-            || self.is_uncommented_case_or_run(number);
-        let is_flat = self.is_in_flat() || fits && !is_kept;
+            || self.is_outermost_uncommented_case_or_run(number);
+        let is_flat = self.is_in_one_line_node() || fits && !is_kept;
         self.add_bytes_to_line(b"(")?;
         self.frames.push(Frame {
             style,
@@ -230,12 +245,12 @@ impl<'a> Layout<'a> {
     fn close_node(&mut self) -> Result<(), AllocError> {
         if self.after_comment {
             let indent = self.indent_in_innermost_node();
-            self.begin_line(indent, false)?;
+            self.begin_line_unless_first(indent, false)?;
         }
         self.add_bytes_to_line(b")")?;
         if let Some(frame) = self.frames.pop() {
             if !frame.is_flat {
-                self.note_part_begun_or_ended(true);
+                self.note_part_begun_or_broken(true);
             }
         }
         Ok(())
@@ -248,30 +263,30 @@ impl<'a> Layout<'a> {
         } else {
             let has_blank = token.lines > 1 && self.frames.len() <= 1;
             let indent = self.indent_in_innermost_node();
-            self.begin_line(indent, has_blank)?;
+            self.begin_line_unless_first(indent, has_blank)?;
         }
         let input = self.input;
-        let bytes = token_bytes(input, token);
+        let bytes = trimmed_token_bytes(input, token);
         self.add_bytes_to_line(bytes)?;
         self.after_comment = true;
         Ok(())
     }
 
     /// Adds `token`, which has the number `number`.
-    pub fn add(&mut self, number: usize, token: &Token) -> Result<(), AllocError> {
+    pub fn add_token(&mut self, number: usize, token: &Token) -> Result<(), AllocError> {
         match token.kind {
             Kind::Comment => self.add_comment(token),
             Kind::Close => self.close_node(),
             Kind::Open => {
-                self.separate_token(number, token)?;
-                self.note_part_begun_or_ended(false);
+                self.add_separator_before_token(number, token)?;
+                self.note_part_begun_or_broken(false);
                 self.open_node(number)
             }
             Kind::Atom => {
-                self.separate_token(number, token)?;
-                self.note_part_begun_or_ended(false);
+                self.add_separator_before_token(number, token)?;
+                self.note_part_begun_or_broken(false);
                 let input = self.input;
-                let bytes = token_bytes(input, token);
+                let bytes = trimmed_token_bytes(input, token);
                 self.add_bytes_to_line(bytes)
             }
         }

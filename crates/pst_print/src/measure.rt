@@ -1,6 +1,6 @@
 //! How wide the parts of a file are on one line.
 
-use crate::tokens::{Kind, Token, token_bytes};
+use crate::tokens::{Kind, Token, trimmed_token_bytes};
 use std::alloc::{AllocError, Global};
 
 /// The size of the tree that begins with a token.
@@ -23,7 +23,7 @@ struct Columns {
 }
 
 /// The reach of each token.
-fn columns_of_tokens(
+fn one_line_columns_of_tokens(
     alloc: Global,
     input: &[u8],
     tokens: &[Token],
@@ -35,7 +35,7 @@ fn columns_of_tokens(
     for token in tokens {
         let is_apart = !follows_open && token.kind != Kind::Close;
         let begin = column.saturating_add(if is_apart { 1 } else { 0 });
-        let end = begin.saturating_add(token_bytes(input, token).len());
+        let end = begin.saturating_add(trimmed_token_bytes(input, token).len());
         if token.kind == Kind::Comment {
             comments = comments.saturating_add(1);
         }
@@ -72,7 +72,7 @@ fn last_token_of_each_tree(alloc: Global, tokens: &[Token]) -> Result<Vec<usize>
 }
 
 /// For each token whether one of the parts of its node begins a line.
-fn line_break_flags(alloc: Global, tokens: &[Token]) -> Result<Vec<bool>, AllocError> {
+fn flag_nodes_with_line_breaks(alloc: Global, tokens: &[Token]) -> Result<Vec<bool>, AllocError> {
     let mut found = Vec::new(alloc);
     let mut open: Vec<usize> = Vec::new(alloc);
     for (number, token) in tokens.iter().enumerate() {
@@ -99,7 +99,10 @@ fn mark_innermost_node_broken(found: &mut [bool], open: &[usize]) {
 }
 
 /// For each token how many brackets close directly after it.
-fn count_closing_brackets(alloc: Global, tokens: &[Token]) -> Result<Vec<usize>, AllocError> {
+fn closing_brackets_after_each_token(
+    alloc: Global,
+    tokens: &[Token],
+) -> Result<Vec<usize>, AllocError> {
     let mut found = Vec::new(alloc);
     let mut count = 0usize;
     for token in tokens.iter().rev() {
@@ -115,7 +118,12 @@ fn count_closing_brackets(alloc: Global, tokens: &[Token]) -> Result<Vec<usize>,
 }
 
 /// The measure of a token with the reach `first`. `last` is the reach of the last token of its tree.
-fn measure_token(first: Columns, last: Columns, closers: usize, has_lines: bool) -> Measure {
+fn tree_measure_from_columns(
+    first: Columns,
+    last: Columns,
+    closers: usize,
+    has_lines: bool,
+) -> Measure {
     Measure {
         has_lines,
         width: last.end.saturating_sub(first.begin).saturating_add(closers),
@@ -124,19 +132,19 @@ fn measure_token(first: Columns, last: Columns, closers: usize, has_lines: bool)
 }
 
 /// The measure of each token of a file.
-pub fn measure_tokens(
+pub fn measure_tree_at_each_token(
     alloc: Global,
     input: &[u8],
     tokens: &[Token],
 ) -> Result<Vec<Measure>, AllocError> {
-    let reaches = columns_of_tokens(alloc, input, tokens)?;
+    let reaches = one_line_columns_of_tokens(alloc, input, tokens)?;
     let ends = last_token_of_each_tree(alloc, tokens)?;
-    let closers = count_closing_brackets(alloc, tokens)?;
-    let broken = line_break_flags(alloc, tokens)?;
+    let closers = closing_brackets_after_each_token(alloc, tokens)?;
+    let broken = flag_nodes_with_line_breaks(alloc, tokens)?;
     let mut found = Vec::new(alloc);
     for ((first, end), has_lines) in reaches.iter().zip(ends.as_slice()).zip(broken.as_slice()) {
         if let (Some(last), Some(closers)) = (reaches.get(*end), closers.get(*end)) {
-            found.push(measure_token(*first, *last, *closers, *has_lines))?;
+            found.push(tree_measure_from_columns(*first, *last, *closers, *has_lines))?;
         }
     }
     Ok(found)

@@ -2,7 +2,7 @@
 ghost use Rattle.std.specs.Prelude.{◌≡◌, IfOk, [], ◌∷◌};
 ghost use Rattle.pst_sexpr.specs.declared.form.Form.TheVariants.{Word};
 
-use pst_sexpr::{Form, list_of};
+use pst_sexpr::{Form, list_of_one_form};
 use pst_value::{Items, Text};
 use std::alloc::{AllocError, Global};
 
@@ -21,7 +21,7 @@ pub fn list_of_two_forms(
 ) -> Result<Items<Form>, AllocError>
     ensures { IfOk result (λ forms. forms ≡ first ∷ second ∷ []) }
 {
-    let mut forms = list_of(alloc, first)?;
+    let mut forms = list_of_one_form(alloc, first)?;
     forms.push(second)?;
     Ok(forms)
 }
@@ -48,7 +48,7 @@ pub fn prepend_form(
 ) -> Result<Items<Form>, AllocError>
     ensures { IfOk result (λ forms. forms ≡ first ∷ rest) }
 {
-    let mut forms = list_of(alloc, first)?;
+    let mut forms = list_of_one_form(alloc, first)?;
     forms.append(rest)?;
     Ok(forms)
 }

@@ -1,17 +1,17 @@
 //! The layout of a whole file.
 
 use crate::layout::Layout;
-use crate::measure::measure_tokens;
-use crate::tokens::{Token, read_layout_tokens, token_bytes};
+use crate::measure::measure_tree_at_each_token;
+use crate::tokens::{Token, read_layout_tokens, trimmed_token_bytes};
 use pst_sexpr::{SexprFault, Tree, read};
 use std::alloc::{AllocError, Global};
 
 /// The tokens of a file on new lines.
 fn format_tokens(alloc: Global, input: &[u8], tokens: &[Token]) -> Result<Vec<u8>, AllocError> {
-    let measures = measure_tokens(alloc, input, tokens)?;
+    let measures = measure_tree_at_each_token(alloc, input, tokens)?;
     let mut layout = Layout::new(alloc, input, tokens, measures.as_slice());
     for (number, token) in tokens.iter().enumerate() {
-        layout.add(number, token)?;
+        layout.add_token(number, token)?;
     }
     layout.into_text()
 }
@@ -28,7 +28,9 @@ fn have_same_tokens(
         return Ok(false);
     }
     for (one, other) in of_first.iter().zip(of_second.as_slice()) {
-        if one.kind != other.kind || token_bytes(first, one) != token_bytes(second, other) {
+        if one.kind != other.kind
+            || trimmed_token_bytes(first, one) != trimmed_token_bytes(second, other)
+        {
             return Ok(false);
         }
     }

@@ -43,7 +43,7 @@ fn is_one_of(head: &[u8], words: &[&str]) -> bool {
 }
 
 /// Which parts stay on one line, and whether lines begin two columns within the node, not below its first part.
-fn line_rules_of_head(head: &[u8]) -> (Rule, bool) {
+fn line_rule_and_indent_of_head(head: &[u8]) -> (Rule, bool) {
     if is_one_of(head, &["model", "model2"]) {
         (Rule::Model, true)
     } else if is_one_of(head, &["op"]) {
@@ -67,7 +67,7 @@ fn line_rules_of_head(head: &[u8]) -> (Rule, bool) {
 
 /// The style of a node with the head word `head` and its bracket in `column`.
 pub fn node_layout_style(head: &[u8], column: usize) -> Style {
-    let (rule, is_within) = line_rules_of_head(head);
+    let (rule, is_within) = line_rule_and_indent_of_head(head);
     let within = column.saturating_add(2);
     let aligned = within.saturating_add(head.len());
     let indent = if is_within || aligned > MOST_ALIGNED {
@@ -80,7 +80,7 @@ pub fn node_layout_style(head: &[u8], column: usize) -> Style {
 
 impl Rule {
     /// Whether a part that begins a line in the file still begins one.
-    pub fn keeps_lines(self) -> bool {
+    pub fn keeps_input_line_breaks(self) -> bool {
         matches!(self, Rule::Operation | Rule::Item | Rule::Model)
     }
 }

@@ -1,6 +1,6 @@
 //! The tokens of a file, comments among them.
 
-use pst_sources::{State, state_after};
+use pst_sources::{State, scan_state_after_byte};
 use std::alloc::{AllocError, Global};
 
 /// What a token is.
@@ -110,7 +110,7 @@ pub fn read_layout_tokens(alloc: Global, input: &[u8]) -> Result<Vec<Token>, All
     };
     let mut state = State::Between;
     for (at, byte) in input.iter().enumerate() {
-        let next = state_after(state, *byte);
+        let next = scan_state_after_byte(state, *byte);
         lexer.read_byte_into_tokens(at, *byte, state, next)?;
         state = next;
     }
@@ -123,7 +123,7 @@ pub fn read_layout_tokens(alloc: Global, input: &[u8]) -> Result<Vec<Token>, All
 }
 
 /// The bytes of a token; those of a comment without white space at its end.
-pub fn token_bytes<'a>(input: &'a [u8], token: &Token) -> &'a [u8] {
+pub fn trimmed_token_bytes<'a>(input: &'a [u8], token: &Token) -> &'a [u8] {
     let bytes = input.get(token.start..token.end).unwrap_or(&[]);
     match token.kind {
         Kind::Comment => bytes.trim_ascii_end(),

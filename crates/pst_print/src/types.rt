@@ -7,7 +7,7 @@ ghost use Rattle.pst_sexpr.specs.declared.form.Form.TheVariants.{Word};
 
 use crate::nodes::list_of_two_forms;
 use crate::words::key_type_word;
-use pst_sexpr::{Form, headed, list_of, word};
+use pst_sexpr::{Form, headed, list_of_one_form, word};
 use pst_value::{Items, KeyTy, Ty};
 use std::alloc::{AllocError, Global};
 
@@ -30,9 +30,17 @@ pub fn ty_form(alloc: Global, ty: &Ty) -> Result<Form, AllocError>
         Ty::Bool => word(alloc, "bool"),
         Ty::Text => word(alloc, "text"),
         Ty::Tuple(types) => headed(alloc, "tuple", print_types(alloc, types.as_slice())?),
-        Ty::List(item) => headed(alloc, "list", list_of(alloc, ty_form(alloc, item.get())?)?),
+        Ty::List(item) => headed(
+            alloc,
+            "list",
+            list_of_one_form(alloc, ty_form(alloc, item.get())?)?,
+        ),
         Ty::Map(kind, item) => print_map_type(alloc, *kind, ty_form(alloc, item.get())?),
-        Ty::Ref(item) => headed(alloc, "ref", list_of(alloc, ty_form(alloc, item.get())?)?),
+        Ty::Ref(item) => headed(
+            alloc,
+            "ref",
+            list_of_one_form(alloc, ty_form(alloc, item.get())?)?,
+        ),
         Ty::Call => word(alloc, "call"),
     }
 }

@@ -27,10 +27,14 @@ pub struct AllowedValues {
 }
 
 /// Proposes answers. A proposal may be wrong: each is checked.
-pub trait Candidates {
+pub trait AnswerProposer {
     /// Returns an answer of the command that may be right in the interleaving `word`, if one is known. `word` has the
     /// branch, from 0, of each of its commands.
-    fn candidate(&self, alloc: Global, word: &[usize]) -> Result<Option<Value>, AllocError>;
+    fn propose_answer_for_interleaving(
+        &self,
+        alloc: Global,
+        word: &[usize],
+    ) -> Result<Option<Value>, AllocError>;
 }
 
 /// Returns whether `answer` is one of `answers`.
@@ -44,7 +48,7 @@ fn is_answer_one_of(answer: &Value, answers: &[Value]) -> bool
 }
 
 /// Returns the proposed answer for the interleaving `word`, if it is new and the model allows it.
-fn new_allowed_candidate<C: Callbacks, P: Candidates>(
+fn proposed_answer_if_new_and_allowed<C: Callbacks, P: AnswerProposer>(
     question: &AnswerQuestion<'_, C>,
     candidates: &P,
     word: &[usize],
@@ -57,7 +61,7 @@ fn new_allowed_candidate<C: Callbacks, P: Candidates>(
         (IsAllowed (C.model r.callbacks.now) r.shaped.now.case r.history.now q.others.now q.number)) }
     ensures new { IfOk result (λ found. IfSome found (λ value. spec.is_one_of value known.now ≡ false)) }
 {
-    let Some(value) = candidates.candidate(question.run.alloc, word)? else {
+    let Some(value) = candidates.propose_answer_for_interleaving(question.run.alloc, word)? else {
         return Ok(None);
     };
     if is_answer_one_of(&value, known) {
@@ -88,7 +92,7 @@ fn answers_and_recorded_answer(
 
 /// Returns the proposed answer for an interleaving in which the recorded answer and the known ones are wrong, if it is
 /// new and the model allows it. The postcondition does not fault in such an interleaving.
-fn allowed_answer_beyond_known_answers<C: Callbacks, P: Candidates>(
+fn proposed_answer_where_known_are_wrong<C: Callbacks, P: AnswerProposer>(
     question: &AnswerQuestion<'_, C>,
     candidates: &P,
     known: &[Value],
@@ -103,14 +107,19 @@ fn allowed_answer_beyond_known_answers<C: Callbacks, P: Candidates>(
     let run = question.run;
     let wrong = answers_and_recorded_answer(run.alloc, run.history, question.number, known)?;
     match interleaving_where_answers_are_wrong(question, wrong.as_slice())? {
-        Some(word) => new_allowed_candidate(question, candidates, word.as_slice(), known),
+        Some(word) => proposed_answer_if_new_and_allowed(
+            question,
+            candidates,
+            word.as_slice(),
+            known,
+        ),
         None => Ok(None),
     }
 }
 
 /// Returns a new answer that the model allows, if `left` is not 0: the proposed answer for the interleaving `word`, or
 /// else for one in which the postcondition does not fault.
-fn new_allowed_answer<C: Callbacks, P: Candidates>(
+fn find_new_allowed_answer<C: Callbacks, P: AnswerProposer>(
     question: &AnswerQuestion<'_, C>,
     candidates: &P,
     word: &[usize],
@@ -128,15 +137,15 @@ fn new_allowed_answer<C: Callbacks, P: Candidates>(
     if left == 0 {
         return Ok(None);
     }
-    let first = new_allowed_candidate(question, candidates, word, known)?;
+    let first = proposed_answer_if_new_and_allowed(question, candidates, word, known)?;
     if let Some(value) = first {
         return Ok(Some(value));
     }
-    allowed_answer_beyond_known_answers(question, candidates, known)
+    proposed_answer_where_known_are_wrong(question, candidates, known)
 }
 
 /// Adds at most `left` answers that the model allows to `values`.
-fn add_allowed_answers<C: Callbacks, P: Candidates>(
+fn add_allowed_answers<C: Callbacks, P: AnswerProposer>(
     question: &AnswerQuestion<'_, C>,
     candidates: &P,
     mut values: Items<Value>,
@@ -159,7 +168,7 @@ fn add_allowed_answers<C: Callbacks, P: Candidates>(
     let Some(word) = merge else {
         return Ok(AllowedValues { values, all: true });
     };
-    let found = new_allowed_answer(question, candidates, word.as_slice(), known, left)?;
+    let found = find_new_allowed_answer(question, candidates, word.as_slice(), known, left)?;
     let Some(value) = found else {
         return Ok(AllowedValues { values, all: false });
     };
@@ -177,7 +186,7 @@ fn add_allowed_answers<C: Callbacks, P: Candidates>(
 /// `at_most` answers are allowed, or `candidates` has no other allowed answer. If `candidates` has none for the first
 /// interleaving, for example because the postcondition faults there, it is tried on one in which the postcondition is
 /// false of the recorded answer. The function takes at most four searches for each value, and four more.
-pub fn find_allowed_values<C: Callbacks, P: Candidates>(
+pub fn find_allowed_values<C: Callbacks, P: AnswerProposer>(
     run: &RecordedRun<'_, C>,
     model: &Source,
     core: &[u32],

@@ -40,7 +40,7 @@ impl<'a> Condition for SomePostconditions<'a> {
 
     ghost asked = { λ a m s e. asks (a.first.now ++ a.rest.now) m s e };
 
-    fn ask<C: Callbacks>(
+    fn evaluate_on_event<C: Callbacks>(
         &self,
         callbacks: &C,
         alloc: Global,
@@ -48,7 +48,7 @@ impl<'a> Condition for SomePostconditions<'a> {
         event: &Event,
     ) -> Result<Result<bool, Fault>, AllocError> {
         if is_postcondition_checked(event.number, self.first, self.rest) {
-            return Postconditions.ask(callbacks, alloc, state, event);
+            return Postconditions.evaluate_on_event(callbacks, alloc, state, event);
         }
         Ok(Ok(true))
     }

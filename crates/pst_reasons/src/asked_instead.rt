@@ -37,7 +37,7 @@ impl<'a> Condition for AnswerReplaced<'a> {
     ghost asked = { λ a m s e. asks_at a.number (λ t d. spec.is_right a.model.now t d a.answer.now)
         a.others.now m s e };
 
-    fn ask<C: Callbacks>(
+    fn evaluate_on_event<C: Callbacks>(
         &self,
         callbacks: &C,
         alloc: Global,
@@ -51,7 +51,7 @@ impl<'a> Condition for AnswerReplaced<'a> {
             first: self.others,
             rest: &[],
         };
-        others.ask(callbacks, alloc, state, event)
+        others.evaluate_on_event(callbacks, alloc, state, event)
     }
 }
 
@@ -61,7 +61,7 @@ impl<'a> Condition for AnswersExcluded<'a> {
     ghost asked = { λ a m s e. asks_at a.number (λ t d. none_is_right a.model.now t d a.answers.now)
         a.others.now m s e };
 
-    fn ask<C: Callbacks>(
+    fn evaluate_on_event<C: Callbacks>(
         &self,
         callbacks: &C,
         alloc: Global,
@@ -78,6 +78,6 @@ impl<'a> Condition for AnswersExcluded<'a> {
             first: self.others,
             rest: &[],
         };
-        others.ask(callbacks, alloc, state, event)
+        others.evaluate_on_event(callbacks, alloc, state, event)
     }
 }

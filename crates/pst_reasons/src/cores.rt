@@ -1,7 +1,7 @@
 //! Cores: answers that cannot all be right.
 ghost use Rattle.std.specs.Prelude.{◌≡◌, ◌++◌, ◌∷◌, [], true, IfOk, MatchOption};
 ghost use Rattle.pst_reasons.specs.Answered.{IsAnsweredRun};
-ghost use Rattle.pst_reasons.specs.Reasons.{AreRising, IsCore, IsCoreSoFar, IsImpossible, IsLeastTrue, IsUnexplained, is_among, number_of_commands, without};
+ghost use Rattle.pst_reasons.specs.Reasons.{AreRising, IsCore, IsCoreSoFar, IsImpossible, IsLeastTrue, IsUnexplained, number_of_commands};
 
 use crate::asked::SomePostconditions;
 use crate::numbers::{
@@ -15,7 +15,7 @@ use std::alloc::AllocError;
 
 /// Returns the lexicographically first interleaving that is true to its end if only the postconditions of the commands
 /// `first` and `rest` are checked. `None` if no interleaving is.
-fn interleaving_satisfying_commands<C: Callbacks>(
+fn interleaving_where_commands_are_right<C: Callbacks>(
     run: &RecordedRun<'_, C>,
     first: &[u32],
     rest: &[u32],
@@ -47,7 +47,7 @@ fn leave_command_out_of_core_if_possible<C: Callbacks>(
     ensures { let r = run.now in IfOk result (λ core. IsCoreSoFar (C.model r.callbacks.now) r.shaped.now.case
         r.history.now first.now core.items) }
 {
-    let merge = interleaving_satisfying_commands(run, first, core.as_slice())?;
+    let merge = interleaving_where_commands_are_right(run, first, core.as_slice())?;
     let Some(_word) = merge else {
         return Ok(core);
     };
@@ -94,26 +94,4 @@ pub fn minimal_core<C: Callbacks>(run: &RecordedRun<'_, C>) -> Result<Vec<u32>, 
     let numbers = command_numbers_up_to(alloc, count_case_commands(run.shaped))?;
     let core = empty_command_number_list(alloc);
     leave_commands_out_of_core_if_possible(run, numbers.as_slice(), core)
-}
-
-/// Returns the first interleaving that is true to its end if only the postconditions of `core` without `number` are
-/// checked.
-pub fn interleaving_without_core_command<C: Callbacks>(
-    run: &RecordedRun<'_, C>,
-    core: &[u32],
-    number: u32,
-) -> Result<Vec<usize>, AllocError>
-    requires answered { let r = run.now in IsAnsweredRun (C.model r.callbacks.now) r.shaped.now r.history.now }
-    requires core { let r = run.now in IsCore (C.model r.callbacks.now) r.shaped.now.case r.history.now core.now }
-    requires member { is_among number core.now ≡ true }
-    ensures { let r = run.now in IfOk result (λ word. IsLeastTrue (C.model r.callbacks.now) r.shaped.now.case
-        r.history.now (without number core.now) word.items) }
-{
-    let alloc = run.alloc;
-    let others = append_numbers_without(number, core, empty_command_number_list(alloc))?;
-    let others = others.as_slice();
-    let Some(word) = interleaving_satisfying_commands(run, others, &[])? else {
-        unreachable!()
-    };
-    Ok(word)
 }

@@ -15,9 +15,9 @@ mod recorded;
 mod searching;
 mod state_list;
 
-pub use allowing::{AllowedValues, Candidates, find_allowed_values};
+pub use allowing::{AllowedValues, AnswerProposer, find_allowed_values};
 pub use asked::SomePostconditions;
-pub use cores::{interleaving_without_core_command, minimal_core};
+pub use cores::minimal_core;
 pub use laws::equality_has_one_answer;
 pub use numbers::{append_numbers_without, count_branch_commands};
 pub use recorded::RecordedRun;

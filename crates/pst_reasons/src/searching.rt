@@ -27,7 +27,7 @@ pub struct AnswerQuestion<'a, C> {
 
 /// Returns an interleaving that is true to its end if `condition` is checked for each event. `None` if no interleaving
 /// is.
-fn explaining_interleaving<C: Callbacks, A: Condition>(
+fn interleaving_satisfying_condition<C: Callbacks, A: Condition>(
     run: &RecordedRun<'_, C>,
     condition: &A,
 ) -> Result<Option<Vec<usize>>, AllocError>
@@ -63,7 +63,7 @@ pub fn is_answer_allowed<C: Callbacks>(
         answer,
         others: question.others,
     };
-    match explaining_interleaving(question.run, &asked)? {
+    match interleaving_satisfying_condition(question.run, &asked)? {
         Some(_word) => Ok(true),
         None => Ok(false),
     }
@@ -89,5 +89,5 @@ pub fn interleaving_where_answers_are_wrong<C: Callbacks>(
         answers,
         others: question.others,
     };
-    explaining_interleaving(question.run, &asked)
+    interleaving_satisfying_condition(question.run, &asked)
 }

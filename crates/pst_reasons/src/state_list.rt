@@ -14,7 +14,7 @@ use crate::recorded::RecordedRun;
 use pst_eval::Callbacks;
 use pst_grid::StepOutcome;
 use pst_judge::{
-    Branches, Condition, Event, branches_with_events, event_outcome, events_of_prefix,
+    Branches, Condition, Event, branch_and_suffix_events, events_of_prefix, replay_event,
 };
 use pst_value::{Items, Value};
 use std::alloc::{AllocError, Global};
@@ -27,7 +27,7 @@ fn split_first_event(events: &[Event]) -> Option<(&Event, &[Event])>
 
 /// Appends to `states` the state after each event in turn, up to the first event that is not true. If all are true, the
 /// result also has the last state.
-fn append_states<C: Callbacks, A: Condition>(
+fn append_states_while_events_hold<C: Callbacks, A: Condition>(
     callbacks: &C,
     condition: &A,
     alloc: Global,
@@ -47,16 +47,16 @@ fn append_states<C: Callbacks, A: Condition>(
     let Some((event, events)) = split_first_event(events) else {
         return Ok((states, Some(state)));
     };
-    match event_outcome(callbacks, condition, alloc, &state, event)? {
+    match replay_event(callbacks, condition, alloc, &state, event)? {
         StepOutcome::Stop(_) => Ok((states, None)),
         StepOutcome::Next(next) => {
             states.push(next.copy(alloc)?)?;
-            append_states(callbacks, condition, alloc, next, events, states)
+            append_states_while_events_hold(callbacks, condition, alloc, next, events, states)
         }
     }
 }
 
-fn split_first_letter(word: &[usize]) -> Option<(&usize, &[usize])>
+fn split_interleaving_at_first_branch(word: &[usize]) -> Option<(&usize, &[usize])>
     ensures { MatchOption result (word.now ≡ []) (λ p. word.now ≡ p.0.now ∷ p.1.now) }
 {
     word.split_first()
@@ -64,7 +64,7 @@ fn split_first_letter(word: &[usize]) -> Option<(&usize, &[usize])>
 
 /// Appends to `states` the state after the event of each letter of `word` in turn, up to the first event that is not
 /// true. If all are true, the result also has the last state.
-fn append_states_along_word<C: Callbacks, A: Condition>(
+fn append_states_while_interleaving_holds<C: Callbacks, A: Condition>(
     branches: &Branches<'_, C, A>,
     alloc: Global,
     state: Value,
@@ -83,7 +83,7 @@ fn append_states_along_word<C: Callbacks, A: Condition>(
     ensures last { let m = C.model branches.now.callbacks.now in
         IfOk result (λ r. OnLast r.1 (IsRealState m branches.now.shaped.now.case)) }
 {
-    let Some((branch, word)) = split_first_letter(word) else {
+    let Some((branch, word)) = split_interleaving_at_first_branch(word) else {
         return Ok((states, Some(state)));
     };
     let Some(events) = branches.events.get(*branch) else {
@@ -95,12 +95,12 @@ fn append_states_along_word<C: Callbacks, A: Condition>(
     let Some(event) = events.get(index) else {
         return Ok((states, None));
     };
-    match event_outcome(branches.callbacks, branches.condition, alloc, &state, event)? {
+    match replay_event(branches.callbacks, branches.condition, alloc, &state, event)? {
         StepOutcome::Stop(_) => Ok((states, None)),
         StepOutcome::Next(next) => {
             done[*branch] = index + 1;
             states.push(next.copy(alloc)?)?;
-            append_states_along_word(branches, alloc, next, word, done, states)
+            append_states_while_interleaving_holds(branches, alloc, next, word, done, states)
         }
     }
 }
@@ -127,7 +127,9 @@ fn append_states_after_prefix<C: Callbacks, A: Condition>(
 {
     let parts = branches.shaped.case().branches.as_slice();
     let done = vec![in alloc; 0; parts.len()]?;
-    let (states, last) = append_states_along_word(branches, alloc, state, word, done, states)?;
+    let (states, last) = append_states_while_interleaving_holds(
+        branches, alloc, state, word, done, states,
+    )?;
     let Some(last) = last else {
         return Ok(states);
     };
@@ -135,7 +137,7 @@ fn append_states_after_prefix<C: Callbacks, A: Condition>(
         return Ok(states);
     }
     let suffix = branches.suffix.as_slice();
-    let (states, _) = append_states(
+    let (states, _) = append_states_while_events_hold(
         branches.callbacks,
         branches.condition,
         alloc,
@@ -172,7 +174,7 @@ pub fn states<C: Callbacks, A: Condition>(
     };
     states.push(state.copy(alloc)?)?;
     let prefix = events_of_prefix(alloc, shaped, history, results)?;
-    let (states, last) = append_states(
+    let (states, last) = append_states_while_events_hold(
         callbacks,
         condition,
         alloc,
@@ -183,6 +185,6 @@ pub fn states<C: Callbacks, A: Condition>(
     let Some(last) = last else {
         return Ok(states);
     };
-    let branches = branches_with_events(callbacks, condition, alloc, shaped, history, results)?;
+    let branches = branch_and_suffix_events(callbacks, condition, alloc, shaped, history, results)?;
     append_states_after_prefix(&branches, alloc, last, word, states)
 }

@@ -78,10 +78,10 @@ module _ (m : Source) where
       tree_item form (record { size = size; spelled = subst (λ f. Spells line (f ∷ [])) (sym at) spelled }) is
   of_tree line (first ∷ second ∷ more) form answer size spelled one at is = absurd (omega arith)
 
-  module _ (one_reading : (bytes : List ℕ) (trees others : List Form) → Spells bytes trees → Spells bytes others → trees ≡ others) where
+  module _ (bytes_have_one_reading : (bytes : List ℕ) (trees others : List Form) → Spells bytes trees → Spells bytes others → trees ≡ others) where
     same_form : (line : List ℕ) (form other : Form) → SpellsItem m line form → SpellsItem m line other → other ≡ form
     same_form line form other (tree none s) t =
-        let same : other ∷ [] ≡ form ∷ [] = one_reading line (other ∷ []) (form ∷ []) (tree_spelled line other none t).spelled s.spelled in
+        let same : other ∷ [] ≡ form ∷ [] = bytes_have_one_reading line (other ∷ []) (form ∷ []) (tree_spelled line other none t).spelled s.spelled in
         cc
     same_form line form other (json some size is) t = json_form line other some t ∙ sym is
 

@@ -5,10 +5,10 @@ use Rattle.json.specs.Print.{print}
 use Rattle.json.specs.Tree.{json_tokens}
 use Rattle.pst_rejudge.specs.declared.field.Field.{Field}
 use Rattle.pst_rejudge.specs.declared.field.Field.TheVariants.{Number, Words, Lines}
-use Rattle.pst_rejudge.specs.declared.field.Name.{Name}
-use Rattle.pst_rejudge.specs.declared.field.Name.TheVariants as name
+use Rattle.pst_rejudge.specs.declared.field.FieldName.{FieldName}
+use Rattle.pst_rejudge.specs.declared.field.FieldName.TheVariants as name
 
-abbrev pub name_text : Name → List ℕ
+abbrev pub name_text : FieldName → List ℕ
 name_text name.Item = codes "item"
 name_text name.Verdict = codes "verdict"
 name_text name.Merge = codes "merge"

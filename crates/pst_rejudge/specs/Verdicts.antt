@@ -4,7 +4,7 @@ use Rattle.pst_eval.specs.Places.{callback_name}
 use Rattle.pst_eval.specs.declared.place.FaultPlace.{FaultPlace}
 use Rattle.pst_rejudge.specs.declared.field.Field.{Field}
 use Rattle.pst_rejudge.specs.declared.field.Field.TheVariants.{Number, Words}
-use Rattle.pst_rejudge.specs.declared.field.Name.TheVariants as name
+use Rattle.pst_rejudge.specs.declared.field.FieldName.TheVariants as name
 use Rattle.pst_judge.specs.VerdictText.{word_text}
 use Rattle.pst_judge.specs.declared.judgement.Judged.{Judged}
 use Rattle.pst_judge.specs.declared.judgement.Judged.TheVariants as judged

@@ -2,7 +2,7 @@
 ghost use Rattle.std.specs.Prelude.{◌≡◌, [], ◌∷◌, ◌++◌, OnOk};
 ghost use Rattle.pst_rejudge.specs.declared.field.Field.TheVariants as spec;
 
-use crate::field::{Field, Name};
+use crate::field::{Field, FieldName};
 use pst_value::Text;
 use std::alloc::{AllocError, Global};
 
@@ -10,7 +10,7 @@ use std::alloc::{AllocError, Global};
 pub fn add_text_field(
     alloc: Global,
     fields: &mut Vec<Field>,
-    name: Name,
+    name: FieldName,
     words: &str,
 ) -> Result<(), AllocError>
     ensures { OnOk result (fields.new.items ≡ fields.old.items ++ spec.Words name words.now ∷ []) }
@@ -21,7 +21,11 @@ pub fn add_text_field(
 }
 
 /// Adds a member that is a number.
-pub fn add_number_field(fields: &mut Vec<Field>, name: Name, number: u64) -> Result<(), AllocError>
+pub fn add_number_field(
+    fields: &mut Vec<Field>,
+    name: FieldName,
+    number: u64,
+) -> Result<(), AllocError>
     ensures { OnOk result (fields.new.items ≡ fields.old.items ++ spec.Number name number ∷ []) }
 {
     fields.push(Field::Number(name, number))?;

@@ -52,7 +52,7 @@ impl From<Unread> for StreamFault {
 /// not ended, at first empty.
 ///
 /// `typed` is the model of the callbacks. After a fault the stream cannot be continued.
-pub fn read_and_judge_block<I: Read, C: Callbacks + Sync, R: Threads + Sync>(
+pub fn read_once_and_judge_ended_lines<I: Read, C: Callbacks + Sync, R: Threads + Sync>(
     rt: &R,
     callbacks: &C,
     alloc: Global,

@@ -5,7 +5,7 @@ ghost use Rattle.std.specs.List.{AllZip};
 ghost use Rattle.pst_rejudge.specs.Answers.{IsAnswer};
 
 use crate::reading::read_run_of_tree;
-use crate::sharing::may_share_models;
+use crate::sharing::prove_models_are_sync;
 use crate::steps::ProgressCounter;
 use pst_eval::Callbacks;
 use pst_judge::{Judged, judge_one};
@@ -47,7 +47,7 @@ pub fn read_and_judge_tree<C: Callbacks>(
 }
 
 /// Reads and judges the item that a tree spells, and counts it in `steps`.
-fn judge_tree_with_progress<C: Callbacks>(
+fn read_and_judge_tree_with_progress<C: Callbacks>(
     callbacks: &C,
     alloc: Global,
     typed: &Typed,
@@ -77,7 +77,7 @@ pub fn read_and_judge_each_tree<C: Callbacks + Sync, R: Threads + Sync>(
     requires { typed.now ≡ C.model callbacks.now }
     ensures { IfOk result (λ all. AllZip (IsAnswer (C.model callbacks.now)) trees.now all.items) }
 {
-    may_share_models();
+    prove_models_are_sync();
     trees
         .par_iter()
         .with_min_len(1)
@@ -85,7 +85,7 @@ pub fn read_and_judge_each_tree<C: Callbacks + Sync, R: Threads + Sync>(
             |tree: &Tree| -> Result<ItemResult, AllocError>
                 requires { typed.now ≡ C.model callbacks.now }
                 ensures { IfOk result (IsAnswer (C.model callbacks.entry.now) tree.now) }
-            { judge_tree_with_progress(callbacks, alloc, typed, tree, steps) },
+            { read_and_judge_tree_with_progress(callbacks, alloc, typed, tree, steps) },
         )
         .collect::<Result<Vec<ItemResult>, AllocError>>(rt, alloc)?
 }

@@ -6,7 +6,7 @@ use pst_value::Text;
 
 /// The name of a member.
 #[derive(Clone, Copy, Debug, PartialEq, Eq, Drop)]
-pub enum Name {
+pub enum FieldName {
     /// The number of an item, from 1.
     Item,
     /// The verdict on an item or on a model.
@@ -99,57 +99,57 @@ pub enum Name {
     Failed,
 }
 
-impl Name {
+impl FieldName {
     /// Returns the name as it is written. The function is long because it has a row for each name.
     pub fn text(&self) -> &'static str
         ensures { result.now ≡ name_text self.now }
     {
         match self {
-            Name::Item => "item",
-            Name::Verdict => "verdict",
-            Name::Merge => "merge",
-            Name::Far => "far",
-            Name::Command => "command",
-            Name::Callback => "callback",
-            Name::Fault => "fault",
-            Name::Stage => "stage",
-            Name::Place => "place",
-            Name::ModelItem => "model_item",
-            Name::Model => "model",
-            Name::Severity => "severity",
-            Name::File => "file",
-            Name::Line => "line",
-            Name::Column => "column",
-            Name::Start => "start",
-            Name::End => "end",
-            Name::Message => "message",
-            Name::Notes => "notes",
-            Name::Explanation => "explanation",
-            Name::Seed => "seed",
-            Name::Trials => "trials",
-            Name::Commands => "commands",
-            Name::Branches => "branches",
-            Name::Suffix => "suffix",
-            Name::Repeats => "repeats",
-            Name::Limit => "limit",
-            Name::Passed => "passed",
-            Name::Unexplained => "unexplained",
-            Name::Faulted => "faulted",
-            Name::Broken => "broken",
-            Name::GenFault => "genfault",
-            Name::Lost => "lost",
-            Name::Undrawn => "undrawn",
-            Name::Losses => "losses",
-            Name::Least => "least",
-            Name::From => "from",
-            Name::FromVerdict => "from_verdict",
-            Name::Steps => "steps",
-            Name::Ending => "ending",
-            Name::To => "to",
-            Name::ToVerdict => "to_verdict",
-            Name::Run => "run",
-            Name::Drives => "drives",
-            Name::Failed => "failed",
+            FieldName::Item => "item",
+            FieldName::Verdict => "verdict",
+            FieldName::Merge => "merge",
+            FieldName::Far => "far",
+            FieldName::Command => "command",
+            FieldName::Callback => "callback",
+            FieldName::Fault => "fault",
+            FieldName::Stage => "stage",
+            FieldName::Place => "place",
+            FieldName::ModelItem => "model_item",
+            FieldName::Model => "model",
+            FieldName::Severity => "severity",
+            FieldName::File => "file",
+            FieldName::Line => "line",
+            FieldName::Column => "column",
+            FieldName::Start => "start",
+            FieldName::End => "end",
+            FieldName::Message => "message",
+            FieldName::Notes => "notes",
+            FieldName::Explanation => "explanation",
+            FieldName::Seed => "seed",
+            FieldName::Trials => "trials",
+            FieldName::Commands => "commands",
+            FieldName::Branches => "branches",
+            FieldName::Suffix => "suffix",
+            FieldName::Repeats => "repeats",
+            FieldName::Limit => "limit",
+            FieldName::Passed => "passed",
+            FieldName::Unexplained => "unexplained",
+            FieldName::Faulted => "faulted",
+            FieldName::Broken => "broken",
+            FieldName::GenFault => "genfault",
+            FieldName::Lost => "lost",
+            FieldName::Undrawn => "undrawn",
+            FieldName::Losses => "losses",
+            FieldName::Least => "least",
+            FieldName::From => "from",
+            FieldName::FromVerdict => "from_verdict",
+            FieldName::Steps => "steps",
+            FieldName::Ending => "ending",
+            FieldName::To => "to",
+            FieldName::ToVerdict => "to_verdict",
+            FieldName::Run => "run",
+            FieldName::Drives => "drives",
+            FieldName::Failed => "failed",
         }
     }
 }
@@ -158,9 +158,9 @@ impl Name {
 #[derive(Debug, Drop)]
 pub enum Field {
     /// A member that is a number.
-    Number(Name, u64),
+    Number(FieldName, u64),
     /// A member that is a text.
-    Words(Name, Text),
+    Words(FieldName, Text),
     /// A member that is an array of texts.
-    Lines(Name, Vec<Text>),
+    Lines(FieldName, Vec<Text>),
 }

@@ -4,7 +4,7 @@ ghost use Rattle.pst_rejudge.specs.Verdicts.{judged_fields, merge_field, outcome
 ghost use Rattle.pst_judge.specs.declared.judgement.Judged.TheVariants as judged;
 
 use crate::add::{add_number_field, add_text_field};
-use crate::field::{Field, Name};
+use crate::field::{Field, FieldName};
 use crate::merge::interleaving_text;
 use pst_eval::FaultPlace;
 use pst_judge::{Judged, Verdict, Why};
@@ -19,9 +19,9 @@ fn add_fault_place_fields(
 ) -> Result<(), AllocError>
     ensures { OnOk result (fields.new.items ≡ fields.old.items ++ place_fields place.now) }
 {
-    add_number_field(fields, Name::Command, place.command as u64)?;
-    add_text_field(alloc, fields, Name::Callback, place.callback.name())?;
-    add_text_field(alloc, fields, Name::Fault, place.fault.name())
+    add_number_field(fields, FieldName::Command, place.command as u64)?;
+    add_text_field(alloc, fields, FieldName::Callback, place.callback.name())?;
+    add_text_field(alloc, fields, FieldName::Fault, place.fault.name())
 }
 
 /// Adds an interleaving, the numbers of its branches.
@@ -33,7 +33,7 @@ fn add_interleaving_field(
     ensures { OnOk result (fields.new.items ≡ fields.old.items ++ merge_field branches.now.items ∷ []) }
 {
     let merge = interleaving_text(alloc, branches.as_slice())?;
-    fields.push(Field::Words(Name::Merge, merge))?;
+    fields.push(Field::Words(FieldName::Merge, merge))?;
     Ok(())
 }
 
@@ -47,20 +47,20 @@ fn add_verdict_fields(
 {
     match verdict {
         Verdict::Explained(word) => {
-            add_text_field(alloc, fields, Name::Verdict, "explained")?;
+            add_text_field(alloc, fields, FieldName::Verdict, "explained")?;
             add_interleaving_field(alloc, fields, word)
         }
         Verdict::Faulted(place) => {
-            add_text_field(alloc, fields, Name::Verdict, "fault")?;
+            add_text_field(alloc, fields, FieldName::Verdict, "fault")?;
             add_fault_place_fields(alloc, fields, place)
         }
         Verdict::Unexplained(far) => {
-            add_text_field(alloc, fields, Name::Verdict, "unexplained")?;
-            add_number_field(fields, Name::Far, *far as u64)
+            add_text_field(alloc, fields, FieldName::Verdict, "unexplained")?;
+            add_number_field(fields, FieldName::Far, *far as u64)
         }
         Verdict::Broken(command) => {
-            add_text_field(alloc, fields, Name::Verdict, "broken")?;
-            add_number_field(fields, Name::Command, *command as u64)
+            add_text_field(alloc, fields, FieldName::Verdict, "broken")?;
+            add_number_field(fields, FieldName::Command, *command as u64)
         }
     }
 }
@@ -75,18 +75,18 @@ fn add_invalid_case_fields(
 {
     match why {
         Why::PreFalse { command, merge } => {
-            add_text_field(alloc, fields, Name::Verdict, "prefalse")?;
-            add_number_field(fields, Name::Command, *command as u64)?;
+            add_text_field(alloc, fields, FieldName::Verdict, "prefalse")?;
+            add_number_field(fields, FieldName::Command, *command as u64)?;
             add_interleaving_field(alloc, fields, merge)
         }
         Why::CallbackFault { place, merge } => {
-            add_text_field(alloc, fields, Name::Verdict, "casefault")?;
+            add_text_field(alloc, fields, FieldName::Verdict, "casefault")?;
             add_fault_place_fields(alloc, fields, place)?;
             add_interleaving_field(alloc, fields, merge)
         }
         Why::NoMemory => {
-            add_text_field(alloc, fields, Name::Verdict, "refused")?;
-            add_text_field(alloc, fields, Name::Stage, "memory")
+            add_text_field(alloc, fields, FieldName::Verdict, "refused")?;
+            add_text_field(alloc, fields, FieldName::Stage, "memory")
         }
     }
 }
@@ -100,10 +100,10 @@ pub fn judged_item_fields(
     ensures { IfOk result (λ fields. fields.items ≡ judged_fields number judged.now) }
 {
     let mut fields = Vec::new(alloc);
-    add_number_field(&mut fields, Name::Item, number as u64)?;
+    add_number_field(&mut fields, FieldName::Item, number as u64)?;
     match judged {
         Judged::Verdict(verdict) => add_verdict_fields(alloc, &mut fields, verdict)?,
-        Judged::Valid => add_text_field(alloc, &mut fields, Name::Verdict, "valid")?,
+        Judged::Valid => add_text_field(alloc, &mut fields, FieldName::Verdict, "valid")?,
         Judged::Invalid(why) => add_invalid_case_fields(alloc, &mut fields, why)?,
     }
     Ok(fields)
@@ -119,10 +119,10 @@ pub fn refused_item_fields(
     ensures { IfOk result (λ fields. fields.items ≡ refused_fields number kind command) }
 {
     let mut fields = Vec::new(alloc);
-    add_number_field(&mut fields, Name::Item, number as u64)?;
-    add_text_field(alloc, &mut fields, Name::Verdict, "refused")?;
-    add_text_field(alloc, &mut fields, Name::Stage, "item")?;
-    add_number_field(&mut fields, Name::Command, command as u64)?;
-    add_text_field(alloc, &mut fields, Name::Fault, kind.name())?;
+    add_number_field(&mut fields, FieldName::Item, number as u64)?;
+    add_text_field(alloc, &mut fields, FieldName::Verdict, "refused")?;
+    add_text_field(alloc, &mut fields, FieldName::Stage, "item")?;
+    add_number_field(&mut fields, FieldName::Command, command as u64)?;
+    add_text_field(alloc, &mut fields, FieldName::Fault, kind.name())?;
     Ok(fields)
 }

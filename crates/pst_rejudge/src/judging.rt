@@ -3,12 +3,12 @@ ghost use Rattle.std.specs.Prelude.{◌≡◌, All, IfOk, IfSome};
 ghost use Rattle.pst_rejudge.specs.Parts.{IsJudgedPart, joined};
 ghost use Rattle.pst_rejudge.specs.Places.{StandsIn};
 
-use crate::parts::split_into_parts;
-use crate::places::{join_places_in_order, put_judged_parts_in_order};
+use crate::parts::split_input_into_parts;
+use crate::places::{join_places_unless_one_is_empty, put_judged_parts_in_order};
 use crate::reading::PartFault;
-use crate::sharing::{may_send_judged_parts, may_share_models};
+use crate::sharing::{prove_judged_parts_are_send, prove_models_are_sync};
 use crate::steps::ProgressCounter;
-use crate::taking::{JudgedPart, judge_remaining_parts};
+use crate::taking::{JudgedPart, take_and_judge_remaining_parts};
 use pst_case::Run;
 use pst_eval::Callbacks;
 use pst_judge::Judged;
@@ -48,7 +48,7 @@ const OFFERS: usize = 64;
 /// allocation failed, even while reading or judging parts.
 ///
 /// `typed` is the model of the callbacks.
-pub fn judge_in_parts<C: Callbacks + Sync, R: Threads + Sync>(
+pub fn read_and_judge_in_parts<C: Callbacks + Sync, R: Threads + Sync>(
     rt: &R,
     callbacks: &C,
     alloc: Global,
@@ -61,9 +61,9 @@ pub fn judge_in_parts<C: Callbacks + Sync, R: Threads + Sync>(
     ensures { IfOk result (λ read. IfSome read
         (λ parts. IsJudgedPart typed.now keeps input.now (joined parts.runs.items) parts.judged.items)) }
 {
-    may_share_models();
-    may_send_judged_parts();
-    let parts = split_into_parts(alloc, input)?;
+    prove_models_are_sync();
+    prove_judged_parts_are_send();
+    let parts = split_input_into_parts(alloc, input)?;
     let next = AtomicUsize::new(0);
     let offers = [0u8; OFFERS];
     let taken = offers
@@ -74,7 +74,7 @@ pub fn judge_in_parts<C: Callbacks + Sync, R: Threads + Sync>(
                 requires { typed.now ≡ C.model callbacks.now }
                 ensures { IfOk result (λ taken. All (StandsIn (C.model callbacks.entry.now) keeps parts.entry.items) taken.items) }
             {
-                judge_remaining_parts(
+                take_and_judge_remaining_parts(
                     callbacks,
                     alloc,
                     typed,
@@ -89,7 +89,7 @@ pub fn judge_in_parts<C: Callbacks + Sync, R: Threads + Sync>(
     match taken {
         Ok(lists) => {
             let places = put_judged_parts_in_order(alloc, parts.as_slice(), lists)?;
-            join_places_in_order(alloc, places)
+            join_places_unless_one_is_empty(alloc, places)
         }
         Err(PartFault::NotRead) => Ok(None),
         Err(PartFault::NoMemory) => Err(AllocError),

@@ -5,7 +5,11 @@ ghost use Rattle.pst_rejudge.specs.Lines.{begun, ended, last_line};
 use std::alloc::{AllocError, Global};
 
 /// Adds a byte to `kept`, the beginning of a line, unless the limit is reached.
-fn keep_byte_of_line(limit: usize, kept: &mut Vec<u8>, byte: u8) -> Result<(), AllocError>
+fn keep_byte_unless_line_is_full(
+    limit: usize,
+    kept: &mut Vec<u8>,
+    byte: u8,
+) -> Result<(), AllocError>
     ensures { OnOk result ((line : List ℕ) → kept.old.items ≡ take limit line
         → kept.new.items ≡ take limit (line ++ byte ∷ [])) }
 {
@@ -16,7 +20,7 @@ fn keep_byte_of_line(limit: usize, kept: &mut Vec<u8>, byte: u8) -> Result<(), A
 }
 
 /// Ends the current line: copies it to `lines`, and begins another, in the room of this one.
-fn end_kept_line(
+fn move_kept_line_to_lines(
     alloc: Global,
     lines: &mut Vec<Vec<u8>>,
     kept: &mut Vec<u8>,
@@ -34,7 +38,7 @@ fn end_kept_line(
 }
 
 /// Adds a byte to the current line, or ends it at a line feed.
-fn add_byte_to_lines(
+fn keep_byte_or_end_line(
     alloc: Global,
     limit: usize,
     lines: &mut Vec<Vec<u8>>,
@@ -48,9 +52,9 @@ fn add_byte_to_lines(
         ≡ map (λ l. l.items) lines.old.items ++ map (take limit) (ended line (byte ∷ []))) }
 {
     if byte == b'\n' {
-        end_kept_line(alloc, lines, kept)
+        move_kept_line_to_lines(alloc, lines, kept)
     } else {
-        keep_byte_of_line(limit, kept, byte)
+        keep_byte_unless_line_is_full(limit, kept, byte)
     }
 }
 
@@ -70,7 +74,7 @@ pub(crate) fn split_bytes_into_lines(
         ≡ map (λ l. l.items) lines.old.items ++ map (take limit) (ended line bytes.now)) }
 {
     for byte in bytes {
-        add_byte_to_lines(alloc, limit, lines, kept, *byte)?;
+        keep_byte_or_end_line(alloc, limit, lines, kept, *byte)?;
     }
     Ok(())
 }
@@ -85,7 +89,7 @@ pub(crate) fn take_last_unended_line(
 {
     let mut lines = Vec::new(alloc);
     if !kept.is_empty() {
-        end_kept_line(alloc, &mut lines, kept)?;
+        move_kept_line_to_lines(alloc, &mut lines, kept)?;
     }
     Ok(lines)
 }

@@ -28,13 +28,13 @@ mod stream_judging;
 mod stream_reading;
 mod taking;
 
-use crate::sharing::may_share_runs;
+use crate::sharing::prove_runs_are_sync;
 pub use add::{add_number_field, add_text_field};
-pub use blocks::{Block, StreamFault, read_and_judge_block};
+pub use blocks::{Block, StreamFault, read_once_and_judge_ended_lines};
 pub use each::{ItemResult, read_and_judge_each_tree, read_and_judge_tree};
-pub use field::{Field, Name};
+pub use field::{Field, FieldName};
 pub use judgement::{judged_item_fields, refused_item_fields};
-pub use judging::{JudgedParts, judge_in_parts};
+pub use judging::{JudgedParts, read_and_judge_in_parts};
 pub use laws::stream_lines_are_judged_as_items;
 pub use object::json_object_line;
 pub use parts::split_before_second_bracket_line;
@@ -43,7 +43,7 @@ use pst_eval::Callbacks;
 use pst_judge::{Judged, judge_one};
 use rayon::prelude::*;
 pub use refusal::{accepted_model_fields, refused_model_fields};
-pub use sharing::may_share_models;
+pub use sharing::prove_models_are_sync;
 use std::alloc::{AllocError, Global};
 use std::thread::Threads;
 pub use steps::ProgressCounter;
@@ -75,7 +75,7 @@ pub fn rejudge_with_progress<C: Callbacks + Sync, R: Threads + Sync>(
     requires { All (MayBeJudged (C.model callbacks.now)) runs.now }
     ensures { IfOk result (λ all. AllZip (IsJudgement (C.model callbacks.now)) runs.now all.items) }
 {
-    may_share_runs();
+    prove_runs_are_sync();
     runs.par_iter()
         .with_min_len(1)
         .map(

@@ -11,7 +11,10 @@ use pst_value::Text;
 use std::alloc::{AllocError, Global};
 
 /// Writes texts, and the end of their array.
-fn write_json_texts_and_end(writer: &mut Writer<Global>, texts: &[Text]) -> Result<(), AllocError>
+fn write_json_texts_and_end_array(
+    writer: &mut Writer<Global>,
+    texts: &[Text],
+) -> Result<(), AllocError>
     ensures ok { OnOk result (writer.new.tokens ≡ writer.old.tokens ++ items_tokens (texts_of texts.now)) }
     ensures before { writer.new.before ≡ writer.old.before }
 {
@@ -39,13 +42,13 @@ fn write_json_field(writer: &mut Writer<Global>, field: &Field) -> Result<(), Al
         Field::Lines(name, lines) => {
             writer.key(name.text())?;
             writer.begin_array()?;
-            write_json_texts_and_end(writer, lines.as_slice())
+            write_json_texts_and_end_array(writer, lines.as_slice())
         }
     }
 }
 
 /// Writes members, and the end of their object.
-fn write_json_fields_and_end(
+fn write_json_fields_and_end_object(
     writer: &mut Writer<Global>,
     fields: &[Field],
 ) -> Result<(), AllocError>
@@ -66,7 +69,7 @@ pub fn json_object_line(alloc: Global, fields: &[Field]) -> Result<Vec<u8>, Allo
 {
     let mut writer = Writer::new(Vec::new(alloc));
     writer.begin_object()?;
-    write_json_fields_and_end(&mut writer, fields)?;
+    write_json_fields_and_end_object(&mut writer, fields)?;
     let mut line = writer.into_inner();
     line.push(b'\n')?;
     Ok(line)

@@ -36,7 +36,10 @@ pub fn split_before_second_bracket_line(input: &[u8]) -> Option<(&[u8], &[u8])>
 }
 
 /// The parts of an input. Each but the last ends before a line that begins with a bracket.
-pub fn split_into_parts<'a>(alloc: Global, input: &'a [u8]) -> Result<Vec<&'a [u8]>, AllocError>
+pub fn split_input_into_parts<'a>(
+    alloc: Global,
+    input: &'a [u8],
+) -> Result<Vec<&'a [u8]>, AllocError>
     ensures { IfOk result (λ parts. AreParts input.now (map (λ part. part.now) parts.items)) }
 {
     let mut parts = Vec::new(alloc);

@@ -70,7 +70,7 @@ fn count_runs_in_places(places: &[Option<JudgedRuns>]) -> usize {
 }
 
 /// The runs of each place, and their judgements as one list, or `None` if some place is empty.
-pub(crate) fn join_places_in_order(
+pub(crate) fn join_places_unless_one_is_empty(
     alloc: Global,
     places: Vec<Option<JudgedRuns>>,
 ) -> Result<Option<JudgedParts>, AllocError>

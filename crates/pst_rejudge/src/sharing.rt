@@ -12,38 +12,38 @@ use pst_model::Typed;
 use pst_value::Value;
 
 /// What is `Sync` may be shared by threads.
-fn may_share<T: Sync>()
+fn prove_sync<T: Sync>()
     ensures { IsSync T.row }
 {}
 
 /// What is `Send` may be sent to a thread.
-fn may_send<T: Send>()
+fn prove_send<T: Send>()
     ensures { IsSend T.row }
 {}
 
 /// Items may be shared by threads, since their parts may be.
-pub(crate) fn may_share_runs()
+pub(crate) fn prove_runs_are_sync()
     ensures { IsSync run_row }
 {
-    may_share::<Value>();
-    may_share::<Command>();
-    may_share::<Case>();
-    may_share::<Run>()
+    prove_sync::<Value>();
+    prove_sync::<Command>();
+    prove_sync::<Case>();
+    prove_sync::<Run>()
 }
 
 /// Well-typed models may be shared by threads.
-pub fn may_share_models()
+pub fn prove_models_are_sync()
     ensures { IsSync typed_row }
 {
-    may_share::<Typed>()
+    prove_sync::<Typed>()
 }
 
 /// Parts that are judged may be sent to threads.
-pub(crate) fn may_send_judged_parts()
+pub(crate) fn prove_judged_parts_are_send()
     ensures { IsSend part_row }
 {
-    may_send::<Run>();
-    may_send::<Judged>();
-    may_send::<JudgedRuns>();
-    may_send::<JudgedPart>()
+    prove_send::<Run>();
+    prove_send::<Judged>();
+    prove_send::<JudgedRuns>();
+    prove_send::<JudgedPart>()
 }

@@ -19,20 +19,20 @@ impl ProgressCounter {
     }
 
     /// How many items are done.
-    pub fn done(&self) -> u64 {
+    pub fn items_done(&self) -> u64 {
         self.done.load(Ordering::SeqCst)
     }
 
     /// How many items there are, if that is known. `None` also if there are no items.
-    pub fn all(&self) -> Option<u64> {
+    pub fn known_total(&self) -> Option<u64> {
         match self.all.load(Ordering::SeqCst) {
             0 => None,
             all => Some(all),
         }
     }
 
-    /// There are `all` items, and none of them is done yet. If `all` is 0, their number counts as not known.
-    pub fn set_total(&self, all: usize) {
+    /// There are `known_total` items, and none of them is done yet. If `known_total` is 0, their number counts as not known.
+    pub fn restart_with_total(&self, all: usize) {
         self.done.store(0, Ordering::SeqCst);
         self.all.store(all as u64, Ordering::SeqCst);
     }

@@ -5,9 +5,9 @@ ghost use Rattle.pst_json_runs.specs.Lines.{has_json};
 ghost use Rattle.pst_rejudge.specs.StreamAnswers.{IsLineAnswer, IsTreeAnswer};
 
 use crate::each::{ItemResult, read_and_judge_tree};
-use crate::sharing::may_share_models;
+use crate::sharing::prove_models_are_sync;
 use pst_eval::Callbacks;
-use pst_json_runs::{is_json_item_line, json_line_tree};
+use pst_json_runs::{begins_like_json_item, json_line_tree_or_empty};
 use pst_model::Typed;
 use pst_runs::RunFaultKind;
 use pst_sexpr::{FaultKind, MAX_BYTES, read};
@@ -64,7 +64,7 @@ fn judge_json_item_on_line<C: Callbacks>(
             command: 0,
         });
     }
-    let tree = json_line_tree(alloc, typed.source(), line)?;
+    let tree = json_line_tree_or_empty(alloc, typed.source(), line)?;
     read_and_judge_tree(callbacks, alloc, typed, &tree)
 }
 
@@ -79,7 +79,7 @@ fn judge_item_on_line<C: Callbacks>(
     requires { typed.now ≡ C.model callbacks.now }
     ensures { IfOk result (IsLineAnswer (C.model callbacks.now) line.now) }
 {
-    if is_json_item_line(line) {
+    if begins_like_json_item(line) {
         judge_json_item_on_line(callbacks, alloc, typed, line)
     } else {
         judge_tree_on_line(callbacks, alloc, typed, line)
@@ -98,7 +98,7 @@ pub(crate) fn judge_items_on_lines<C: Callbacks + Sync, R: Threads + Sync>(
     ensures { IfOk result (λ answers.
         AllZip (λ line. IsLineAnswer (C.model callbacks.now) line.items) lines.now answers.items) }
 {
-    may_share_models();
+    prove_models_are_sync();
     lines
         .par_iter()
         .with_min_len(FEW_LINES)

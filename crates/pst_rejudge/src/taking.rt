@@ -64,7 +64,7 @@ fn read_and_judge_part<C: Callbacks>(
 }
 
 /// Reads and judges one part after another until none is left. No other thread takes these parts.
-pub(crate) fn judge_remaining_parts<C: Callbacks>(
+pub(crate) fn take_and_judge_remaining_parts<C: Callbacks>(
     callbacks: &C,
     alloc: Global,
     typed: &Typed,

@@ -2,8 +2,8 @@
 use Rattle.std.specs.Prelude.{ℕ, List, [], ◌∷◌, ◌++◌, codes}
 use Rattle.pst_rejudge.specs.declared.field.Field.{Field}
 use Rattle.pst_rejudge.specs.declared.field.Field.TheVariants.{Number, Words}
-use Rattle.pst_rejudge.specs.declared.field.Name.{Name}
-use Rattle.pst_rejudge.specs.declared.field.Name.TheVariants as name
+use Rattle.pst_rejudge.specs.declared.field.FieldName.{FieldName}
+use Rattle.pst_rejudge.specs.declared.field.FieldName.TheVariants as name
 use Rattle.pst_ledger.specs.declared.entry.Entry.{Entry}
 use Rattle.pst_report.specs.Kinds.{count_of}
 use Rattle.pst_report.specs.declared.kind.EntryKind.{EntryKind}
@@ -32,7 +32,7 @@ drive_fields s =
     Number name.Suffix s.suffix ∷ Number name.Repeats s.repeats ∷ Number name.Limit s.limit ∷ []
 
 -- how many numbers ended in the way of a kind
-abbrev pub count_field : Name → EntryKind → List (Entry RecordView) → Field
+abbrev pub count_field : FieldName → EntryKind → List (Entry RecordView) → Field
 count_field n k entries = Number n (count_of k entries)
 
 abbrev pub judged_fields : List (Entry RecordView) → List Field

@@ -76,7 +76,10 @@ fn failed_and_passed_count_lines(
 }
 
 /// The lines of the numbers for which there is no run.
-fn missing_run_count_lines(alloc: Global, entries: &[Entry<Record>]) -> Result<String, AllocError>
+fn trials_without_run_report_lines(
+    alloc: Global,
+    entries: &[Entry<Record>],
+) -> Result<String, AllocError>
     ensures { IfOk result (λ lines. string_bytes lines ≡ spec.missing_lines entries.now) }
 {
     let mut lines = entry_count_report_line(alloc, "genfault", EntryKind::GenFaulted, entries)?;
@@ -99,6 +102,6 @@ pub fn entry_count_report_lines(
     ensures { IfOk result (λ lines. string_bytes lines ≡ spec.count_lines entries.now) }
 {
     let mut lines = failed_and_passed_count_lines(alloc, entries)?;
-    lines.push_str(missing_run_count_lines(alloc, entries)?.as_str())?;
+    lines.push_str(trials_without_run_report_lines(alloc, entries)?.as_str())?;
     Ok(lines)
 }

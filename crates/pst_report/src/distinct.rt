@@ -31,7 +31,7 @@ fn has_failure_with_case(failures: &[NumberedFailure], case: &[u8]) -> bool
 }
 
 /// Adds the failure that the case of a trial was shrunk to, if the trial failed and no failure in the list has the same case.
-fn push_failure_with_new_case(
+fn add_failure_if_case_is_new(
     alloc: Global,
     failures: &mut Vec<NumberedFailure>,
     number: usize,
@@ -61,7 +61,7 @@ pub fn distinct_failures(
     let mut failures = Vec::new(alloc);
     for (number, entry) in entries.iter().enumerate() {
         if let Entry::Done(record) = entry {
-            push_failure_with_new_case(alloc, &mut failures, number, record)?;
+            add_failure_if_case_is_new(alloc, &mut failures, number, record)?;
         }
     }
     Ok(failures)

@@ -37,7 +37,7 @@ fn suffix_part_unless_zero(alloc: Global, suffix: u32) -> Result<String, AllocEr
 }
 
 /// `seed S trials N commands C repeats R limit X`.
-fn number_settings_part(alloc: Global, settings: &Settings) -> Result<String, AllocError>
+fn always_printed_settings_part(alloc: Global, settings: &Settings) -> Result<String, AllocError>
     ensures { IfOk result (λ part. string_bytes part ≡ spec.numbers_part settings.now) }
 {
     let seed = settings.seed;
@@ -54,7 +54,7 @@ fn number_settings_part(alloc: Global, settings: &Settings) -> Result<String, Al
 fn campaign_settings_report_line(alloc: Global, settings: &Settings) -> Result<String, AllocError>
     ensures { IfOk result (λ line. string_bytes line ≡ spec.settings_line settings.now) }
 {
-    let mut line = number_settings_part(alloc, settings)?;
+    let mut line = always_printed_settings_part(alloc, settings)?;
     line.push_str(branches_part_unless_two(alloc, settings.branches)?.as_str())?;
     line.push_str(suffix_part_unless_zero(alloc, settings.suffix)?.as_str())?;
     line.push_str("\n")?;

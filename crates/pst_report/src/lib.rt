@@ -21,6 +21,6 @@ pub use failures::{ShrunkFailure, shrunk_failure_of_record};
 pub use fault::ReportFault;
 pub use kind::EntryKind;
 pub use least::{first_failed_trial, first_trial_with_generation_fault};
-pub use object::{add_losses_and_least_failure, first_campaign_report_fields};
-pub use status::{CampaignStatus, campaign_status, status_of_early_ended_campaign};
+pub use object::{add_lost_trials_and_first_failure, campaign_report_fields_before_losses};
+pub use status::{CampaignStatus, campaign_status, status_of_stoppable_campaign};
 pub use writer::report;

@@ -10,14 +10,14 @@ use crate::least::first_failed_trial;
 use crate::status::CampaignStatus;
 use pst_ledger::{Closed, Entry};
 use pst_model::Typed;
-use pst_rejudge::{Field, Name, add_number_field, add_text_field};
+use pst_rejudge::{Field, FieldName, add_number_field, add_text_field};
 use pst_shrink::{FailingCase, Shrunk};
 use pst_trial::{JudgedRun, Plan, Record, Settings};
 use pst_value::Text;
 use std::alloc::{AllocError, Global};
 
 /// How the campaign ended.
-fn campaign_status_word(status: CampaignStatus) -> &'static str
+fn campaign_status_name(status: CampaignStatus) -> &'static str
     ensures { result.now ≡ spec.status_word status }
 {
     match status {
@@ -28,28 +28,34 @@ fn campaign_status_word(status: CampaignStatus) -> &'static str
 }
 
 /// Adds how many trials there are, and the kinds of their cases.
-fn add_case_settings_fields(fields: &mut Vec<Field>, settings: &Settings) -> Result<(), AllocError>
+fn add_seed_trials_commands_branches_fields(
+    fields: &mut Vec<Field>,
+    settings: &Settings,
+) -> Result<(), AllocError>
     ensures { OnOk result (fields.new.items ≡ fields.old.items ++ spec.case_fields settings.now) }
 {
-    add_number_field(fields, Name::Seed, settings.seed)?;
-    add_number_field(fields, Name::Trials, settings.trials as u64)?;
-    add_number_field(fields, Name::Commands, settings.commands as u64)?;
-    add_number_field(fields, Name::Branches, settings.branches as u64)
+    add_number_field(fields, FieldName::Seed, settings.seed)?;
+    add_number_field(fields, FieldName::Trials, settings.trials as u64)?;
+    add_number_field(fields, FieldName::Commands, settings.commands as u64)?;
+    add_number_field(fields, FieldName::Branches, settings.branches as u64)
 }
 
 /// Adds how cases are driven.
-fn add_drive_settings_fields(fields: &mut Vec<Field>, settings: &Settings) -> Result<(), AllocError>
+fn add_suffix_repeats_limit_fields(
+    fields: &mut Vec<Field>,
+    settings: &Settings,
+) -> Result<(), AllocError>
     ensures { OnOk result (fields.new.items ≡ fields.old.items ++ spec.drive_fields settings.now) }
 {
-    add_number_field(fields, Name::Suffix, settings.suffix as u64)?;
-    add_number_field(fields, Name::Repeats, settings.repeats as u64)?;
-    add_number_field(fields, Name::Limit, settings.limit as u64)
+    add_number_field(fields, FieldName::Suffix, settings.suffix as u64)?;
+    add_number_field(fields, FieldName::Repeats, settings.repeats as u64)?;
+    add_number_field(fields, FieldName::Limit, settings.limit as u64)
 }
 
 /// Adds how many numbers ended in the way of a kind.
 fn add_trial_count_field(
     fields: &mut Vec<Field>,
-    name: Name,
+    name: FieldName,
     kind: EntryKind,
     entries: &[Entry<Record>],
 ) -> Result<(), AllocError>
@@ -66,29 +72,34 @@ fn add_passed_and_failed_counts(
 ) -> Result<(), AllocError>
     ensures { OnOk result (fields.new.items ≡ fields.old.items ++ spec.judged_fields entries.now) }
 {
-    add_trial_count_field(fields, Name::Passed, EntryKind::Passed, entries)?;
-    add_trial_count_field(fields, Name::Unexplained, EntryKind::Unexplained, entries)?;
-    add_trial_count_field(fields, Name::Faulted, EntryKind::Faulted, entries)?;
-    add_trial_count_field(fields, Name::Broken, EntryKind::Broken, entries)
+    add_trial_count_field(fields, FieldName::Passed, EntryKind::Passed, entries)?;
+    add_trial_count_field(
+        fields,
+        FieldName::Unexplained,
+        EntryKind::Unexplained,
+        entries,
+    )?;
+    add_trial_count_field(fields, FieldName::Faulted, EntryKind::Faulted, entries)?;
+    add_trial_count_field(fields, FieldName::Broken, EntryKind::Broken, entries)
 }
 
 /// Adds the counts of the numbers for which there is no run.
-fn add_missing_run_counts(
+fn add_counts_of_trials_without_run(
     fields: &mut Vec<Field>,
     entries: &[Entry<Record>],
 ) -> Result<(), AllocError>
     ensures { OnOk result (fields.new.items ≡ fields.old.items ++ spec.missing_fields entries.now) }
 {
-    add_trial_count_field(fields, Name::GenFault, EntryKind::GenFaulted, entries)?;
-    add_trial_count_field(fields, Name::Lost, EntryKind::Lost, entries)?;
-    add_trial_count_field(fields, Name::Undrawn, EntryKind::Undrawn, entries)
+    add_trial_count_field(fields, FieldName::GenFault, EntryKind::GenFaulted, entries)?;
+    add_trial_count_field(fields, FieldName::Lost, EntryKind::Lost, entries)?;
+    add_trial_count_field(fields, FieldName::Undrawn, EntryKind::Undrawn, entries)
 }
 
 /// The first members of the object of a campaign: how it ended, the name of its model, its plan, and how many
 /// trials ended in which way.
 ///
 /// `AllocError`: an allocation failed.
-pub fn first_campaign_report_fields(
+pub fn campaign_report_fields_before_losses(
     alloc: Global,
     plan: &Plan,
     closed: &Closed<Record>,
@@ -101,19 +112,19 @@ pub fn first_campaign_report_fields(
     add_text_field(
         alloc,
         &mut fields,
-        Name::Verdict,
-        campaign_status_word(status),
+        FieldName::Verdict,
+        campaign_status_name(status),
     )?;
     add_text_field(
         alloc,
         &mut fields,
-        Name::Model,
+        FieldName::Model,
         plan.typed().source().name.as_str(),
     )?;
-    add_case_settings_fields(&mut fields, plan.settings())?;
-    add_drive_settings_fields(&mut fields, plan.settings())?;
+    add_seed_trials_commands_branches_fields(&mut fields, plan.settings())?;
+    add_suffix_repeats_limit_fields(&mut fields, plan.settings())?;
     add_passed_and_failed_counts(&mut fields, entries)?;
-    add_missing_run_counts(&mut fields, entries)?;
+    add_counts_of_trials_without_run(&mut fields, entries)?;
     Ok(fields)
 }
 
@@ -138,7 +149,7 @@ fn add_failing_run_fields(
     alloc: Global,
     fields: &mut Vec<Field>,
     typed: &Typed,
-    names: (Name, Name),
+    names: (FieldName, FieldName),
     taken: &FailingCase<JudgedRun>,
 ) -> Result<(), AllocError>
     requires { IsMatching typed.now taken.now }
@@ -160,7 +171,7 @@ fn add_shrinking_fields(
 ) -> Result<(), AllocError>
     requires { AreMatching typed.now shrunk.now }
 {
-    let from = (Name::From, Name::FromVerdict);
+    let from = (FieldName::From, FieldName::FromVerdict);
     add_failing_run_fields(
         alloc,
         fields,
@@ -168,19 +179,27 @@ fn add_shrinking_fields(
         from,
         failing_run_before_shrinking(shrunk),
     )?;
-    add_number_field(fields, Name::Steps, shrunk.before.len() as u64)?;
-    add_text_field(alloc, fields, Name::Ending, shrink_end_name(shrunk.ending))?;
+    add_number_field(fields, FieldName::Steps, shrunk.before.len() as u64)?;
+    add_text_field(
+        alloc,
+        fields,
+        FieldName::Ending,
+        shrink_end_name(shrunk.ending),
+    )?;
     add_failing_run_fields(
         alloc,
         fields,
         typed,
-        (Name::To, Name::ToVerdict),
+        (FieldName::To, FieldName::ToVerdict),
         &shrunk.last,
     )
 }
 
 /// The lost numbers, each with its cause, such as `3:Panicked`.
-fn lost_trial_texts(alloc: Global, entries: &[Entry<Record>]) -> Result<Vec<Text>, AllocError> {
+fn lost_trials_with_causes(
+    alloc: Global,
+    entries: &[Entry<Record>],
+) -> Result<Vec<Text>, AllocError> {
     let mut losses = Vec::new(alloc);
     for (number, entry) in entries.iter().enumerate() {
         if let Entry::Lost(cause) = entry {
@@ -195,7 +214,7 @@ fn lost_trial_texts(alloc: Global, entries: &[Entry<Record>]) -> Result<Vec<Text
 /// number of a failed trial, its own failing run, and the last run of shrinking, each with its verdict.
 ///
 /// The records must belong to the plan, each at its own number. `AllocError`: an allocation failed.
-pub fn add_losses_and_least_failure(
+pub fn add_lost_trials_and_first_failure(
     alloc: Global,
     fields: &mut Vec<Field>,
     plan: &Plan,
@@ -203,9 +222,9 @@ pub fn add_losses_and_least_failure(
 ) -> Result<(), AllocError>
     requires { AreOf plan.now 0 entries.now }
 {
-    fields.push(Field::Lines(Name::Losses, lost_trial_texts(alloc, entries)?))?;
+    fields.push(Field::Lines(FieldName::Losses, lost_trials_with_causes(alloc, entries)?))?;
     if let Some((number, shrunk)) = first_failed_trial(plan, entries) {
-        add_number_field(fields, Name::Least, number as u64)?;
+        add_number_field(fields, FieldName::Least, number as u64)?;
         add_shrinking_fields(alloc, fields, plan.typed(), shrunk)?;
     }
     Ok(())

@@ -87,7 +87,7 @@ fn any_drawn_entry_other_than_passed(entries: &[Entry<Record>]) -> bool
 
 /// How a campaign that may end early ended: `Incomplete` if a number is lost; else `Failed` if a trial did not pass, though
 /// numbers may be undrawn; else as [`campaign_status`] says.
-pub fn status_of_early_ended_campaign(closed: &Closed<Record>) -> CampaignStatus
+pub fn status_of_stoppable_campaign(closed: &Closed<Record>) -> CampaignStatus
     ensures { result ≡ spec.ended_status closed.now }
 {
     let entries = closed.entries();

@@ -1,10 +1,14 @@
 //! The answers of the libraries for a text, in words.
 
-use crate::cores::core_answer;
-use crate::generated::generate_answer;
-use crate::items::{alone_answer, judge_answer, runs_answer, valid_answer, write_answer};
+use crate::cores::first_run_core_or_verdict_answer;
+use crate::generated::generated_case_and_draws_answer;
+use crate::items::{
+    each_item_judged_alone_answer, judge_output_answer, last_item_validity_answer,
+    verdicts_or_refusal_answer, written_and_rewritten_items_answer,
+};
 use crate::models::{
-    check_answer, form_answer, initial_state_answer, list_answer, print_answer, trees_answer,
+    check_output_answer, initial_state_by_both_evaluators_answer, list_status_or_refusal_answer,
+    model_reading_answer_for_text, printed_and_reread_model_answer, tree_count_or_fault_answer,
 };
 use crate::questions::Question;
 use std::alloc::{AllocError, Global};
@@ -19,7 +23,10 @@ pub struct QuestionText<'a> {
 }
 
 /// The whole text of a question, with a space between what comes before the text and the text.
-fn whole_of(alloc: Global, question_text: &QuestionText<'_>) -> Result<String, AllocError> {
+fn join_question_text(
+    alloc: Global,
+    question_text: &QuestionText<'_>,
+) -> Result<String, AllocError> {
     let mut whole = String::from_str(alloc, question_text.before)?;
     if !question_text.before.is_empty() {
         whole.push_str(" ")?;
@@ -30,41 +37,49 @@ fn whole_of(alloc: Global, question_text: &QuestionText<'_>) -> Result<String, A
 }
 
 /// The answer to a question about a whole text.
-fn answer_whole<R: Threads + Sync>(
+fn answer_to_question_about_whole_text<R: Threads + Sync>(
     rt: &R,
     alloc: Global,
     question: Question,
     text: &str,
 ) -> Result<String, AllocError> {
     match question {
-        Question::Trees => trees_answer(alloc, text),
-        Question::Form => form_answer(alloc, text),
-        Question::Check => check_answer(alloc, text),
-        Question::Print => print_answer(alloc, text),
-        Question::List => list_answer(alloc, text),
-        Question::InitialState => initial_state_answer(alloc, text),
-        Question::Runs => runs_answer(alloc, text),
-        Question::Alone => alone_answer(alloc, text),
-        Question::Valid => valid_answer(alloc, text),
-        Question::Core => core_answer(alloc, text),
-        Question::Judge => judge_answer(rt, alloc, text),
+        Question::Trees => tree_count_or_fault_answer(alloc, text),
+        Question::Form => model_reading_answer_for_text(alloc, text),
+        Question::Check => check_output_answer(alloc, text),
+        Question::Print => printed_and_reread_model_answer(alloc, text),
+        Question::List => list_status_or_refusal_answer(alloc, text),
+        Question::InitialState => initial_state_by_both_evaluators_answer(alloc, text),
+        Question::Runs => verdicts_or_refusal_answer(alloc, text),
+        Question::Alone => each_item_judged_alone_answer(alloc, text),
+        Question::Valid => last_item_validity_answer(alloc, text),
+        Question::Core => first_run_core_or_verdict_answer(alloc, text),
+        Question::Judge => judge_output_answer(rt, alloc, text),
         Question::Write | Question::Generate => Ok(String::new(alloc)),
     }
 }
 
 /// The answer to a question.
-pub fn answer_to<R: Threads + Sync>(
+pub fn answer_to_question<R: Threads + Sync>(
     rt: &R,
     alloc: Global,
     question: Question,
     question_text: &QuestionText<'_>,
 ) -> Result<String, AllocError> {
     match question {
-        Question::Write => write_answer(alloc, question_text.before, question_text.text),
-        Question::Generate => generate_answer(alloc, question_text.before, question_text.text),
+        Question::Write => written_and_rewritten_items_answer(
+            alloc,
+            question_text.before,
+            question_text.text,
+        ),
+        Question::Generate => generated_case_and_draws_answer(
+            alloc,
+            question_text.before,
+            question_text.text,
+        ),
         _ => {
-            let whole = whole_of(alloc, question_text)?;
-            answer_whole(rt, alloc, question, whole.as_str())
+            let whole = join_question_text(alloc, question_text)?;
+            answer_to_question_about_whole_text(rt, alloc, question, whole.as_str())
         }
     }
 }

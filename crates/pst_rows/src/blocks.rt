@@ -7,7 +7,7 @@
 //! line, and the answer. In the text of such a file braces mean what they mean in tables, and the last line break
 //! belongs to it only if an empty line follows.
 
-use crate::campaigns::Pool;
+use crate::campaigns::SystemPool;
 use crate::requests::{Request, answer_to_request};
 use crate::tally::{Tally, print_difference};
 use crate::texts::text_with_braces_expanded;
@@ -18,7 +18,7 @@ use std::thread::Threads;
 use std::{fs, io};
 
 /// The last part of a path, which is the file's name.
-fn name_of(path: &str) -> &str {
+fn file_name_of_path(path: &str) -> &str {
     match path.rsplit_once("/") {
         Some((_, name)) => name,
         None => path,
@@ -26,7 +26,7 @@ fn name_of(path: &str) -> &str {
 }
 
 /// The folder that a file is in.
-fn folder_of(path: &str) -> &str {
+fn folder_of_path(path: &str) -> &str {
     match path.rsplit_once("/") {
         Some((folder, _)) => folder,
         None => "",
@@ -34,12 +34,12 @@ fn folder_of(path: &str) -> &str {
 }
 
 /// Reads the files that a request names, next to the file of blocks.
-fn read_named<'a, R: Files + AllocGlobal>(
+fn read_files_named_in_request<'a, R: Files + AllocGlobal>(
     rt: &R,
     path: &str,
     line: &'a str,
 ) -> io::Result<Vec<SourceFile<'a>>> {
-    let folder = folder_of(path);
+    let folder = folder_of_path(path);
     let mut files = Vec::new(rt.alloc());
     for word in line.split(' ').skip(1) {
         if word.contains('=') {
@@ -50,14 +50,14 @@ fn read_named<'a, R: Files + AllocGlobal>(
         } else {
             fs::read(rt, format!(in rt.alloc(); "{folder}/{word}")?.as_str())?
         };
-        let name = name_of(word);
+        let name = file_name_of_path(word);
         files.push(SourceFile { name, bytes })?;
     }
     Ok(files)
 }
 
 /// Adds the files that a block has itself: in each part the name is on the first line, and the text on the others.
-fn push_own<'a, R: Files + AllocGlobal>(
+fn push_files_inside_block<'a, R: Files + AllocGlobal>(
     rt: &R,
     files: &mut Vec<SourceFile<'a>>,
     text: &'a str,
@@ -71,28 +71,28 @@ fn push_own<'a, R: Files + AllocGlobal>(
 }
 
 /// Checks a block of the file at that path, and prints how its answer differs.
-fn check_block<R: Threads + Wait + Sync + Files + Print + AllocGlobal>(
+fn check_block_and_print_difference<R: Threads + Wait + Sync + Files + Print + AllocGlobal>(
     rt: &R,
-    pool: &mut Pool,
+    pool: &mut SystemPool,
     tally: &mut Tally,
     path: &str,
     block: &str,
 ) -> anyhow::Result<()> {
     let (line, rest) = block.split_once("\n").unwrap_or((block, ""));
-    let mut files = read_named(rt, path, line)?;
+    let mut files = read_files_named_in_request(rt, path, line)?;
     let named = files.len();
     let mut wanted = rest;
     if let Some(own) = rest.strip_prefix("-- ") {
         let (texts, answer) = own.split_once("\n=>\n").unwrap_or((own, ""));
-        push_own(rt, &mut files, texts)?;
+        push_files_inside_block(rt, &mut files, texts)?;
         wanted = answer;
     }
     let request = Request { line, files };
     let answer = answer_to_request(rt, pool, &request)?;
     let is_right = answer.as_str() == wanted;
-    tally.count(is_right);
+    tally.count_row(is_right);
     if !is_right {
-        let names = request.names_after(rt.alloc(), named)?;
+        let names = request.spaced_file_names_after_count(rt.alloc(), named)?;
         println!(rt; "{path}: $ {line}{names}")?;
         print_difference(rt, wanted, answer.as_str())?;
     }
@@ -100,9 +100,9 @@ fn check_block<R: Threads + Wait + Sync + Files + Print + AllocGlobal>(
 }
 
 /// Checks the blocks of a file, and prints those that have another answer.
-pub fn check_blocks<R: Threads + Wait + Sync + Files + Print + AllocGlobal>(
+pub fn check_blocks_and_print_differences<R: Threads + Wait + Sync + Files + Print + AllocGlobal>(
     rt: &R,
-    pool: &mut Pool,
+    pool: &mut SystemPool,
     tally: &mut Tally,
     path: &str,
     text: &str,
@@ -111,7 +111,7 @@ pub fn check_blocks<R: Threads + Wait + Sync + Files + Print + AllocGlobal>(
         return Ok(tally.print_and_count_problem(rt, path, "the last line is not `$ end`")?);
     };
     for block in whole.split("\n$ ").skip(1) {
-        check_block(rt, pool, tally, path, block)?;
+        check_block_and_print_difference(rt, pool, tally, path, block)?;
     }
     Ok(())
 }

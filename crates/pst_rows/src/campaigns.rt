@@ -14,7 +14,7 @@ use std::thread::Threads;
 
 /// The systems of all campaigns. They are made in `main`, and each serves one campaign.
 #[derive(Drop)]
-pub struct Pool {
+pub struct SystemPool {
     pub counters: Vec<BoxedSystem>,
     pub registries: Vec<BoxedSystem>,
     pub stuck: Vec<BoxedSystem>,
@@ -24,10 +24,10 @@ pub struct Pool {
     pub lacks_memory: bool,
 }
 
-impl Pool {
+impl SystemPool {
     /// A pool without systems.
-    pub fn new(alloc: Global) -> Pool {
-        Pool {
+    pub fn new(alloc: Global) -> SystemPool {
+        SystemPool {
             counters: Vec::new(alloc),
             registries: Vec::new(alloc),
             stuck: Vec::new(alloc),
@@ -38,14 +38,18 @@ impl Pool {
 }
 
 /// Puts a system at the end of the systems, or notes that there is no memory for it.
-pub fn add_system(systems: &mut Vec<BoxedSystem>, lacks_memory: &mut bool, system: BoxedSystem) {
+pub fn add_system_or_note_no_memory(
+    systems: &mut Vec<BoxedSystem>,
+    lacks_memory: &mut bool,
+    system: BoxedSystem,
+) {
     if systems.push(system).is_err() {
         *lacks_memory = true;
     }
 }
 
 /// Takes `count` systems, or all that are left.
-fn taken(
+fn take_systems_up_to_count(
     alloc: Global,
     from: &mut Vec<BoxedSystem>,
     count: u32,
@@ -60,22 +64,22 @@ fn taken(
 }
 
 /// The systems of a request, `workers=NUMBER` of them, or the pair.
-fn systems_of(
+fn take_systems_for_request(
     alloc: Global,
-    pool: &mut Pool,
+    pool: &mut SystemPool,
     request: &Request<'_>,
 ) -> Result<Vec<BoxedSystem>, AllocError> {
-    let workers = request.number("workers", 4);
-    match request.option("system") {
-        Some("counter") => taken(alloc, &mut pool.counters, workers),
-        Some("registry") => taken(alloc, &mut pool.registries, workers),
-        Some("pair") => taken(alloc, &mut pool.pair, 2),
-        _ => taken(alloc, &mut pool.stuck, workers),
+    let workers = request.option_number_or_default("workers", 4);
+    match request.option_value("system") {
+        Some("counter") => take_systems_up_to_count(alloc, &mut pool.counters, workers),
+        Some("registry") => take_systems_up_to_count(alloc, &mut pool.registries, workers),
+        Some("pair") => take_systems_up_to_count(alloc, &mut pool.pair, 2),
+        _ => take_systems_up_to_count(alloc, &mut pool.stuck, workers),
     }
 }
 
 /// The settings of a request; those that it does not name are the default ones.
-fn settings_of(request: &Request<'_>) -> Settings {
+fn campaign_settings_of_request(request: &Request<'_>) -> Settings {
     let Settings {
         seed: _,
         trials,
@@ -86,33 +90,33 @@ fn settings_of(request: &Request<'_>) -> Settings {
         limit,
     } = Settings::default();
     Settings {
-        seed: request.number("seed", 0) as u64,
-        trials: request.number("trials", trials),
-        commands: request.number("commands", commands),
-        branches: request.number("branches", branches),
-        suffix: request.number("suffix", suffix),
-        repeats: request.number("repeats", repeats),
-        limit: request.number("limit", limit),
+        seed: request.option_number_or_default("seed", 0) as u64,
+        trials: request.option_number_or_default("trials", trials),
+        commands: request.option_number_or_default("commands", commands),
+        branches: request.option_number_or_default("branches", branches),
+        suffix: request.option_number_or_default("suffix", suffix),
+        repeats: request.option_number_or_default("repeats", repeats),
+        limit: request.option_number_or_default("limit", limit),
     }
 }
 
 /// The report of the campaign that a request describes, and its status.
-pub fn campaign_answer<R: Threads + Wait + Sync + AllocGlobal>(
+pub fn campaign_report_and_status_answer<R: Threads + Wait + Sync + AllocGlobal>(
     rt: &R,
-    pool: &mut Pool,
+    pool: &mut SystemPool,
     request: &Request<'_>,
 ) -> anyhow::Result<String> {
     let alloc = rt.alloc();
-    let settings = settings_of(request);
+    let settings = campaign_settings_of_request(request);
     if !settings.are_in_range() {
         bail!("the settings are out of range");
     }
-    let systems = systems_of(alloc, pool, request)?;
+    let systems = take_systems_for_request(alloc, pool, request)?;
     let mut out = Out::new(Vec::new(alloc));
     let status = campaign_text(
         rt,
         alloc,
-        request.bytes(),
+        request.first_file_bytes(),
         settings,
         systems,
         &Unwatched,

@@ -25,7 +25,7 @@ fn core_text(alloc: Global, core: &[u32]) -> Result<String, AllocError> {
 }
 
 /// The core of a run with the verdict `found`, or the word of the verdict if it has no core.
-fn found_text(
+fn core_text_or_verdict_name(
     alloc: Global,
     typed: &Typed,
     run: &Run,
@@ -53,7 +53,7 @@ fn found_text(
 }
 
 /// The core of a run, or the word of its verdict if it has no core.
-fn core_numbers_or_verdict_word(
+fn core_or_verdict_text_of_run(
     alloc: Global,
     typed: &Typed,
     run: &Run,
@@ -65,26 +65,30 @@ fn core_numbers_or_verdict_word(
         return String::from_str(alloc, "case");
     };
     let found = verdict(&Plain::new(typed), alloc, &run.shaped, history)?;
-    found_text(alloc, typed, run, history, found)
+    core_text_or_verdict_name(alloc, typed, run, history, found)
 }
 
 /// The core of the first run, or the word of its verdict if it has no core.
-fn first_text(alloc: Global, typed: &Typed, runs: &[Run]) -> Result<String, AllocError>
+fn core_or_verdict_text_of_first_run(
+    alloc: Global,
+    typed: &Typed,
+    runs: &[Run],
+) -> Result<String, AllocError>
     requires lawful { AreLawful typed.now runs.now }
 {
     match runs.split_first() {
-        Some((run, _)) => core_numbers_or_verdict_word(alloc, typed, run),
+        Some((run, _)) => core_or_verdict_text_of_run(alloc, typed, run),
         None => String::from_str(alloc, "no items"),
     }
 }
 
 /// The numbers of the core of the first run of a text, or the word of its verdict if it has no core.
-pub fn core_answer(alloc: Global, text: &str) -> Result<String, AllocError> {
+pub fn first_run_core_or_verdict_answer(alloc: Global, text: &str) -> Result<String, AllocError> {
     let Ok(file) = load(alloc, text.as_bytes())? else {
         return String::from_str(alloc, "no model");
     };
     match read_runs(alloc, &file.typed, trees_after_model(file.trees.as_slice())) {
-        Ok(runs) => first_text(alloc, &file.typed, runs.as_slice()),
+        Ok(runs) => core_or_verdict_text_of_first_run(alloc, &file.typed, runs.as_slice()),
         Err(_) => String::from_str(alloc, "no items"),
     }
 }

@@ -12,7 +12,10 @@ type EvaluationResult = Result<(Value, u32), Fault>;
 
 /// `value` if both are the same value with the same number of turns left, the name of the fault if both are the same
 /// fault, and `different` otherwise.
-fn word_for_equal_outcomes(one: &EvaluationResult, other: &EvaluationResult) -> &'static str {
+fn name_of_equal_outcomes_or_different(
+    one: &EvaluationResult,
+    other: &EvaluationResult,
+) -> &'static str {
     match one {
         Ok((value, turns)) => match other {
             Ok((same, left)) if value == same && turns == left => "value",
@@ -26,27 +29,33 @@ fn word_for_equal_outcomes(one: &EvaluationResult, other: &EvaluationResult) -> 
 }
 
 /// The outcome of the plain evaluator for the initial state.
-fn plain_outcome(alloc: Global, typed: &Typed) -> Result<EvaluationResult, AllocError> {
+fn plain_outcome_of_initial_state(
+    alloc: Global,
+    typed: &Typed,
+) -> Result<EvaluationResult, AllocError> {
     Plain::new(typed).init(alloc)
 }
 
 /// The outcome of compiled code for the initial state, compared with the other one.
-fn compared_with(
+fn compile_and_compare_with_plain_outcome(
     alloc: Global,
     typed: Typed,
     plain: &EvaluationResult,
 ) -> Result<&'static str, AllocError> {
     match compile(alloc, typed) {
-        Ok(compiled) => Ok(word_for_equal_outcomes(plain, &compiled.init(alloc)?)),
+        Ok(compiled) => Ok(name_of_equal_outcomes_or_different(plain, &compiled.init(alloc)?)),
         Err(_) => Ok("not compiled"),
     }
 }
 
 /// The outcome of both evaluators for the initial state of the model that a text begins with.
-pub fn initial_state_outcome_word(alloc: Global, text: &str) -> Result<&'static str, AllocError> {
+pub fn compare_evaluators_on_initial_state(
+    alloc: Global,
+    text: &str,
+) -> Result<&'static str, AllocError> {
     let Some(typed) = typed_model_of_text(alloc, text) else {
         return Ok("not well typed");
     };
-    let plain = plain_outcome(alloc, &typed)?;
-    compared_with(alloc, typed, &plain)
+    let plain = plain_outcome_of_initial_state(alloc, &typed)?;
+    compile_and_compare_with_plain_outcome(alloc, typed, &plain)
 }

@@ -3,7 +3,7 @@
 use crate::requests::Request;
 use pst_cli::{Status, judge_text, judge_text_keep_going};
 use pst_sexpr::Out;
-use pst_sources::joined;
+use pst_sources::joined_text_of_files;
 use std::alloc::{AllocError, Global};
 use std::thread::Threads;
 
@@ -22,7 +22,7 @@ fn verdict_lines_in_comments(alloc: Global, text: &str) -> Result<String, AllocE
 }
 
 /// Whether the lines that were written are those of the comments of a text; if not, the lines.
-fn comparison_with_comments(
+fn compare_output_with_comments(
     alloc: Global,
     text: &str,
     written: &[u8],
@@ -42,7 +42,7 @@ fn comparison_with_comments(
 
 /// What is written of the items of the files, compared with the comments of the last file. If a model has a file of its own, the
 /// items that are refused leave the others their verdicts.
-pub fn comments_answer<R: Threads + Sync>(
+pub fn judged_output_against_comments_answer<R: Threads + Sync>(
     rt: &R,
     alloc: Global,
     request: &Request<'_>,
@@ -54,12 +54,12 @@ pub fn comments_answer<R: Threads + Sync>(
     let Ok(text) = std::str::from_utf8(last.bytes.as_slice()) else {
         return String::from_str(alloc, "no text\n");
     };
-    let input = joined(alloc, files)?;
+    let input = joined_text_of_files(alloc, files)?;
     let mut out = Out::new(Vec::new(alloc));
     let status = if before.is_empty() {
         judge_text(rt, alloc, input.as_slice(), &mut out)
     } else {
         judge_text_keep_going(rt, alloc, input.as_slice(), &mut out)
     };
-    comparison_with_comments(alloc, text, out.into_inner().as_slice(), status)
+    compare_output_with_comments(alloc, text, out.into_inner().as_slice(), status)
 }

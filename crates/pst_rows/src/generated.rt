@@ -1,7 +1,7 @@
 //! The answers about generated cases.
 ghost use Rattle.std.specs.Prelude.{◌≡◌};
 
-use crate::models::spelling_of;
+use crate::models::spell_tree_as_text;
 use crate::words::Words;
 use pst_case::Run;
 use pst_eval::Plain;
@@ -21,7 +21,7 @@ struct Sizes {
 }
 
 /// The sizes that a text names.
-fn sizes_of(text: &str) -> Option<Sizes> {
+fn parse_sizes_of_case(text: &str) -> Option<Sizes> {
     let mut parts = text.split(' ');
     let commands: u32 = parts.next()?.parse().ok()?;
     let branches: u32 = parts.next()?.parse().ok()?;
@@ -34,7 +34,7 @@ fn sizes_of(text: &str) -> Option<Sizes> {
 }
 
 /// The numbers in a text.
-fn numbers_of(alloc: Global, text: &str) -> Result<Vec<u64>, AllocError> {
+fn parse_numbers_or_zeros(alloc: Global, text: &str) -> Result<Vec<u64>, AllocError> {
     let mut numbers = Vec::new(alloc);
     for word in text.trim().split(' ') {
         numbers.push(word.parse().unwrap_or(0))?;
@@ -43,18 +43,18 @@ fn numbers_of(alloc: Global, text: &str) -> Result<Vec<u64>, AllocError> {
 }
 
 /// The spelling of a valid case.
-fn case_text(alloc: Global, typed: &Typed, valid: Valid) -> Result<String, AllocError>
+fn spelling_of_valid_case(alloc: Global, typed: &Typed, valid: Valid) -> Result<String, AllocError>
     requires { valid.model ≡ typed.now }
 {
     let run = Run {
         shaped: valid.into_shaped(),
         history: None,
     };
-    spelling_of(alloc, &run_tree(alloc, typed, &run)?)
+    spell_tree_as_text(alloc, &run_tree(alloc, typed, &run)?)
 }
 
 /// The case that is generated from `words`, or the fault.
-fn generated(
+fn generated_case_or_fault_text(
     alloc: Global,
     typed: &Typed,
     sizes: Sizes,
@@ -70,7 +70,7 @@ fn generated(
     }
     let plain = Plain::new(typed);
     match generate(&plain, alloc, typed, words, commands, branches, suffix)? {
-        Ok(valid) => case_text(alloc, typed, valid),
+        Ok(valid) => spelling_of_valid_case(alloc, typed, valid),
         Err(fault) => {
             let command = fault.command;
             let callback = fault.callback.name();
@@ -81,31 +81,35 @@ fn generated(
 }
 
 /// The case that is generated from the words of a text, or the fault, and how many words were drawn.
-fn generated_by(
+fn generated_case_and_draw_count(
     alloc: Global,
     typed: &Typed,
     sizes: Sizes,
     text: &str,
 ) -> Result<String, AllocError> {
-    let numbers = numbers_of(alloc, text)?;
+    let numbers = parse_numbers_or_zeros(alloc, text)?;
     let mut words = Words {
         words: numbers.as_slice(),
         drawn: 0,
     };
-    let answer = generated(alloc, typed, sizes, &mut words)?;
+    let answer = generated_case_or_fault_text(alloc, typed, sizes, &mut words)?;
     let drawn = words.drawn;
     format!(in alloc; "{answer} {drawn} drawn")
 }
 
 /// The case that is generated for a model, or the fault, and how many words were drawn. The text is
 /// `COMMANDS BRANCHES SUFFIX, WORD WORD ..`.
-pub fn generate_answer(alloc: Global, model: &str, text: &str) -> Result<String, AllocError> {
+pub fn generated_case_and_draws_answer(
+    alloc: Global,
+    model: &str,
+    text: &str,
+) -> Result<String, AllocError> {
     let (head, rest) = text.split_once(",").unwrap_or((text, ""));
-    let Some(sizes) = sizes_of(head) else {
+    let Some(sizes) = parse_sizes_of_case(head) else {
         return String::from_str(alloc, "no sizes");
     };
     match typed_model_of_text(alloc, model) {
-        Some(typed) => generated_by(alloc, &typed, sizes, rest),
+        Some(typed) => generated_case_and_draw_count(alloc, &typed, sizes, rest),
         None => String::from_str(alloc, "no model"),
     }
 }

@@ -1,7 +1,7 @@
 //! The answers about cases and runs.
 ghost use Rattle.std.specs.Prelude.{◌≡◌};
 
-use crate::models::{lines_joined_by_commas, output_answer, text_of};
+use crate::models::{lines_joined_by_commas, status_and_lines_answer, text_of_bytes_or_note};
 use pst_case::{Case, Run, shape};
 use pst_cli::judge_text;
 use pst_eval::Plain;
@@ -15,18 +15,22 @@ use std::alloc::{AllocError, Global};
 use std::thread::Threads;
 
 /// The output of `pst judge`: its status and its lines.
-pub fn judge_answer<R: Threads + Sync>(
+pub fn judge_output_answer<R: Threads + Sync>(
     rt: &R,
     alloc: Global,
     text: &str,
 ) -> Result<String, AllocError> {
     let mut sink = Out::new(Vec::new(alloc));
     let status = judge_text(rt, alloc, text.as_bytes(), &mut sink);
-    output_answer(alloc, status, sink.into_inner().as_slice())
+    status_and_lines_answer(alloc, status, sink.into_inner().as_slice())
 }
 
 /// The verdict on a run, `case` for a case.
-fn verdict_answer(alloc: Global, typed: &Typed, run: Run) -> Result<String, AllocError> {
+fn verdict_or_problem_text_of_run(
+    alloc: Global,
+    typed: &Typed,
+    run: Run,
+) -> Result<String, AllocError> {
     let Run { shaped, history } = run;
     let Some(history) = history else {
         return String::from_str(alloc, "case");
@@ -41,24 +45,28 @@ fn verdict_answer(alloc: Global, typed: &Typed, run: Run) -> Result<String, Allo
 }
 
 /// The verdicts, one after another.
-fn verdicts_answer(alloc: Global, typed: &Typed, runs: Vec<Run>) -> Result<String, AllocError> {
+fn verdicts_joined_by_commas(
+    alloc: Global,
+    typed: &Typed,
+    runs: Vec<Run>,
+) -> Result<String, AllocError> {
     let mut verdicts = String::new(alloc);
     for run in runs {
         if !verdicts.is_empty() {
             verdicts.push_str(", ")?;
         }
-        verdicts.push_str(verdict_answer(alloc, typed, run)?.as_str())?;
+        verdicts.push_str(verdict_or_problem_text_of_run(alloc, typed, run)?.as_str())?;
     }
     Ok(verdicts)
 }
 
 /// The verdicts on the items of a file, or the refusal of an item.
-pub fn runs_answer(alloc: Global, text: &str) -> Result<String, AllocError> {
+pub fn verdicts_or_refusal_answer(alloc: Global, text: &str) -> Result<String, AllocError> {
     let Ok(file) = load(alloc, text.as_bytes())? else {
         return String::from_str(alloc, "no model");
     };
     match read_runs(alloc, &file.typed, trees_after_model(file.trees.as_slice())) {
-        Ok(runs) => verdicts_answer(alloc, &file.typed, runs),
+        Ok(runs) => verdicts_joined_by_commas(alloc, &file.typed, runs),
         Err(fault) => {
             let run = fault.run;
             let command = fault.command;
@@ -69,7 +77,11 @@ pub fn runs_answer(alloc: Global, text: &str) -> Result<String, AllocError> {
 }
 
 /// The judgement of one item alone.
-fn judged_alone(alloc: Global, typed: &Typed, run: Run) -> Result<String, AllocError> {
+fn judgement_or_problem_text_of_item(
+    alloc: Global,
+    typed: &Typed,
+    run: Run,
+) -> Result<String, AllocError> {
     let Run { shaped, history } = run;
     let Ok(shaped) = shape(alloc, typed, shaped.into_case()) else {
         return String::from_str(alloc, "no shape");
@@ -83,14 +95,18 @@ fn judged_alone(alloc: Global, typed: &Typed, run: Run) -> Result<String, AllocE
 }
 
 /// The judgements of runs, one after another and numbered.
-fn lines_alone(alloc: Global, typed: &Typed, runs: Vec<Run>) -> Result<String, AllocError> {
+fn numbered_judgements_joined_by_commas(
+    alloc: Global,
+    typed: &Typed,
+    runs: Vec<Run>,
+) -> Result<String, AllocError> {
     let mut lines = String::new(alloc);
     for (index, run) in runs.into_iter().enumerate() {
         if index > 0 {
             lines.push_str(", ")?;
         }
         let number = index.saturating_add(1);
-        let judged = judged_alone(alloc, typed, run)?;
+        let judged = judgement_or_problem_text_of_item(alloc, typed, run)?;
         let line = format!(in alloc; "{number} {judged}")?;
         lines.push_str(line.as_str())?;
     }
@@ -98,37 +114,41 @@ fn lines_alone(alloc: Global, typed: &Typed, runs: Vec<Run>) -> Result<String, A
 }
 
 /// The judgements of the items of a file, each alone.
-pub fn alone_answer(alloc: Global, text: &str) -> Result<String, AllocError> {
+pub fn each_item_judged_alone_answer(alloc: Global, text: &str) -> Result<String, AllocError> {
     let Ok(file) = load(alloc, text.as_bytes())? else {
         return String::from_str(alloc, "no model");
     };
     match read_runs(alloc, &file.typed, trees_after_model(file.trees.as_slice())) {
-        Ok(runs) => lines_alone(alloc, &file.typed, runs),
+        Ok(runs) => numbered_judgements_joined_by_commas(alloc, &file.typed, runs),
         Err(_) => String::from_str(alloc, "no items"),
     }
 }
 
 /// The text that is written for items of a model.
-fn text_written_for_items(alloc: Global, typed: &Typed, items: &str) -> Option<String> {
+fn read_and_write_items_as_text(alloc: Global, typed: &Typed, items: &str) -> Option<String> {
     let trees = read(alloc, items.as_bytes()).ok()?;
     let Ok(runs) = read_runs(alloc, typed, trees.as_slice()) else {
         return None;
     };
     let mut sink = Out::new(Vec::new(alloc));
     write_runs(alloc, typed, runs.as_slice(), &mut sink).ok()?;
-    text_of(alloc, sink.into_inner().as_slice()).ok()
+    text_of_bytes_or_note(alloc, sink.into_inner().as_slice()).ok()
 }
 
 /// The text that is written for items of a model, with `, ` between the lines. The text that is written for this text
 /// has to be the same.
-pub fn write_answer(alloc: Global, model: &str, items: &str) -> Result<String, AllocError> {
+pub fn written_and_rewritten_items_answer(
+    alloc: Global,
+    model: &str,
+    items: &str,
+) -> Result<String, AllocError> {
     let Some(typed) = typed_model_of_text(alloc, model) else {
         return String::from_str(alloc, "no model");
     };
-    let Some(once) = text_written_for_items(alloc, &typed, items) else {
+    let Some(once) = read_and_write_items_as_text(alloc, &typed, items) else {
         return String::from_str(alloc, "not written");
     };
-    match text_written_for_items(alloc, &typed, once.as_str()) {
+    match read_and_write_items_as_text(alloc, &typed, once.as_str()) {
         Some(again) if again.as_str() == once.as_str() => lines_joined_by_commas(
             alloc,
             once.as_bytes(),
@@ -138,7 +158,7 @@ pub fn write_answer(alloc: Global, model: &str, items: &str) -> Result<String, A
 }
 
 /// `valid` if an accepted case and its copy are still the wanted case, and `changed` otherwise.
-fn accepted_word(
+fn valid_or_changed_after_copy(
     alloc: Global,
     typed: &Typed,
     accepted: Valid,
@@ -157,24 +177,27 @@ fn accepted_word(
 }
 
 /// `valid`, or the reason why a case is not valid, or `changed` if a valid case does not stay the same.
-fn case_validity(alloc: Global, typed: &Typed, case: Case) -> Option<&'static str> {
+fn case_validity_or_changed(alloc: Global, typed: &Typed, case: Case) -> Option<&'static str> {
     let wanted = case.copy(alloc).ok()?;
     let shaped = shape(alloc, typed, case).ok()?;
     match valid(&Plain::new(typed), alloc, shaped) {
-        Ok(accepted) => accepted_word(alloc, typed, accepted, &wanted),
+        Ok(accepted) => valid_or_changed_after_copy(alloc, typed, accepted, &wanted),
         Err((_, why)) => Some(why.name()),
     }
 }
 
-/// The validity of the last item of a text, as [`case_validity`] returns it.
-fn validity(alloc: Global, text: &str) -> Option<&'static str> {
+/// The validity of the last item of a text, as [`case_validity_or_changed`] returns it.
+fn validity_of_last_item(alloc: Global, text: &str) -> Option<&'static str> {
     let file = load(alloc, text.as_bytes()).ok()?.ok()?;
     let mut runs = read_runs(alloc, &file.typed, trees_after_model(file.trees.as_slice())).ok()?;
     let case = runs.pop()?.shaped.into_case();
-    case_validity(alloc, &file.typed, case)
+    case_validity_or_changed(alloc, &file.typed, case)
 }
 
 /// Whether the last item of a text is valid, or the reason why it is not.
-pub fn valid_answer(alloc: Global, text: &str) -> Result<String, AllocError> {
-    String::from_str(alloc, validity(alloc, text).unwrap_or("no case"))
+pub fn last_item_validity_answer(alloc: Global, text: &str) -> Result<String, AllocError> {
+    String::from_str(
+        alloc,
+        validity_of_last_item(alloc, text).unwrap_or("no case"),
+    )
 }

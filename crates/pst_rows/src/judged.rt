@@ -6,7 +6,7 @@ use pst_messages::{
     ItemInput, precondition_warnings_on_item_results, precondition_warnings_on_runs,
 };
 use pst_sexpr::Out;
-use pst_sources::{Input, joined};
+use pst_sources::{Input, joined_text_of_files};
 use std::alloc::{AllocError, Global};
 use std::thread::Threads;
 
@@ -14,7 +14,7 @@ use std::thread::Threads;
 type Warnings = Result<Option<Option<String>>, AllocError>;
 
 /// An input without JSON items.
-fn as_read(input: Input<'_>) -> ItemInput<'_> {
+fn item_input_without_json(input: Input<'_>) -> ItemInput<'_> {
     ItemInput {
         trees: input,
         read: input.files,
@@ -22,7 +22,7 @@ fn as_read(input: Input<'_>) -> ItemInput<'_> {
 }
 
 /// The warnings on the items, up to the first refused one.
-fn warnings_up_to_first_refusal<R: Threads + Sync>(
+fn judge_and_warn_to_first_refusal<R: Threads + Sync>(
     rt: &R,
     alloc: Global,
     input: Input<'_>,
@@ -37,7 +37,7 @@ fn warnings_up_to_first_refusal<R: Threads + Sync>(
         compiled,
         alloc,
         compiled.typed(),
-        as_read(input),
+        item_input_without_json(input),
         judged.runs.as_slice(),
         judged.judged.as_slice(),
     )?;
@@ -45,7 +45,7 @@ fn warnings_up_to_first_refusal<R: Threads + Sync>(
 }
 
 /// The warnings on the items, of which some are refused.
-fn warnings_despite_refusals<R: Threads + Sync>(
+fn judge_and_warn_despite_refusals<R: Threads + Sync>(
     rt: &R,
     alloc: Global,
     input: Input<'_>,
@@ -61,7 +61,7 @@ fn warnings_despite_refusals<R: Threads + Sync>(
         compiled,
         alloc,
         compiled.typed(),
-        as_read(input),
+        item_input_without_json(input),
         answered.file.trees.as_slice(),
         answered.answers.as_slice(),
     )?;
@@ -69,20 +69,20 @@ fn warnings_despite_refusals<R: Threads + Sync>(
 }
 
 /// The warnings on the judged items of the files, of which some may be refused if `keeps_on`.
-pub fn item_warnings_answer<R: Threads + Sync>(
+pub fn judged_item_warnings_answer<R: Threads + Sync>(
     rt: &R,
     alloc: Global,
     request: &Request<'_>,
     keeps_on: bool,
 ) -> Result<String, AllocError> {
     let files = request.files.as_slice();
-    let text = joined(alloc, files)?;
+    let text = joined_text_of_files(alloc, files)?;
     let bytes = text.as_slice();
     let input = Input { files, bytes };
     let warnings = if keeps_on {
-        warnings_despite_refusals(rt, alloc, input)?
+        judge_and_warn_despite_refusals(rt, alloc, input)?
     } else {
-        warnings_up_to_first_refusal(rt, alloc, input)?
+        judge_and_warn_to_first_refusal(rt, alloc, input)?
     };
     match warnings {
         Some(Some(warnings)) => Ok(warnings),

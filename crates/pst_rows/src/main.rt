@@ -26,8 +26,8 @@ mod tally;
 mod texts;
 mod words;
 
-use campaigns::{Pool, add_system};
-use folders::check_all_folders;
+use campaigns::{SystemPool, add_system_or_note_no_memory};
+use folders::check_folder_rows_and_print_results;
 use pst_samples::{Counter, Flags, Pair, Registry, Side, Stuck};
 use std::process::ExitCode;
 use std::sync::Arc;
@@ -41,7 +41,7 @@ const SYSTEMS: u32 = 64;
 macro_rules! add_boxed {
     ($pool:expr, $systems:expr, $alloc:expr, $system:expr) => {
         match Box::new($alloc, $system) {
-            Ok(system) => add_system(&mut $systems, &mut $pool.lacks_memory, system),
+            Ok(system) => add_system_or_note_no_memory(&mut $systems, &mut $pool.lacks_memory, system),
             Err(_) => $pool.lacks_memory = true,
         }
     };
@@ -62,7 +62,7 @@ fn main(rt: HostRuntime) -> ExitCode {
                 return false;
             };
             // Boxes of systems are made here, since a contract says nothing of what a function boxes and hands out.
-            let mut pool = Pool::new(alloc);
+            let mut pool = SystemPool::new(alloc);
             for _ in 0..SYSTEMS {
                 add_boxed!(pool, pool.counters, alloc, Counter::new(rt));
                 add_boxed!(pool, pool.registries, alloc, Registry::new(rt, alloc));
@@ -70,7 +70,7 @@ fn main(rt: HostRuntime) -> ExitCode {
             }
             add_boxed!(pool, pool.pair, alloc, Pair::new(Side::First, flags));
             add_boxed!(pool, pool.pair, alloc, Pair::new(Side::Second, same));
-            !pool.lacks_memory && check_all_folders(&rt, &mut pool).is_ok()
+            !pool.lacks_memory && check_folder_rows_and_print_results(&rt, &mut pool).is_ok()
         });
     match worker {
         Ok(worker) => {

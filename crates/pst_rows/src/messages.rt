@@ -2,18 +2,18 @@
 
 use crate::requests::Request;
 use pst_messages::{MessageScope, input_error_messages_text, input_warnings_text};
-use pst_sources::{SourceFile, joined};
+use pst_sources::{SourceFile, joined_text_of_files};
 use std::alloc::{AllocError, Global};
 use std::slice;
 
 /// The messages of the files of a request, or `nothing is refused`.
-pub fn message_answer(
+pub fn refusal_messages_answer(
     alloc: Global,
     request: &Request<'_>,
     scope: MessageScope,
 ) -> Result<String, AllocError> {
     let files = request.files.as_slice();
-    let text = joined(alloc, files)?;
+    let text = joined_text_of_files(alloc, files)?;
     match input_error_messages_text(alloc, files, text.as_slice(), scope)? {
         Some(message) => Ok(message),
         None => String::from_str(alloc, "nothing is refused\n"),
@@ -21,15 +21,15 @@ pub fn message_answer(
 }
 
 /// The warnings on the model of a request, or `no warnings`.
-pub fn warnings_answer(alloc: Global, request: &Request<'_>) -> Result<String, AllocError> {
-    match input_warnings_text(alloc, request.files.as_slice(), request.bytes())? {
+pub fn model_warnings_answer(alloc: Global, request: &Request<'_>) -> Result<String, AllocError> {
+    match input_warnings_text(alloc, request.files.as_slice(), request.first_file_bytes())? {
         Some(warnings) => Ok(warnings),
         None => String::from_str(alloc, "no warnings\n"),
     }
 }
 
 /// The line and the column that a message begins with, after the name of a file.
-fn place_in(name: &str, message: &str) -> Option<(usize, usize)> {
+fn line_and_column_of_message(name: &str, message: &str) -> Option<(usize, usize)> {
     let mut parts = message.strip_prefix(name)?.split(':');
     parts.next()?;
     let line = parts.next()?.parse::<usize>().ok()?;
@@ -38,8 +38,8 @@ fn place_in(name: &str, message: &str) -> Option<(usize, usize)> {
 }
 
 /// Whether a message begins with a place that is in the file, or at the end of a line of it.
-fn is_within(message: &str, file: &SourceFile<'_>) -> bool {
-    let Some((line, column)) = place_in(file.name, message) else {
+fn is_message_at_place_in_file(message: &str, file: &SourceFile<'_>) -> bool {
+    let Some((line, column)) = line_and_column_of_message(file.name, message) else {
         return false;
     };
     let mut lines = file.bytes.as_slice().split(|byte| *byte == b'\n');
@@ -50,17 +50,20 @@ fn is_within(message: &str, file: &SourceFile<'_>) -> bool {
 }
 
 /// Whether the message of a file is at a place in the file.
-fn has_message_within(alloc: Global, file: &SourceFile<'_>) -> Result<bool, AllocError> {
+fn has_message_at_place_in_file(alloc: Global, file: &SourceFile<'_>) -> Result<bool, AllocError> {
     let files = slice::from_ref(file);
     match input_error_messages_text(alloc, files, file.bytes.as_slice(), MessageScope::FirstItem)? {
-        Some(message) => Ok(is_within(message.as_str(), file)),
+        Some(message) => Ok(is_message_at_place_in_file(message.as_str(), file)),
         None => Ok(false),
     }
 }
 
 /// How many of the texts that the file of a request begins with have a message at a place in them.
-pub fn beginnings_answer(alloc: Global, request: &Request<'_>) -> Result<String, AllocError> {
-    let text = request.bytes();
+pub fn count_prefixes_with_placed_message_answer(
+    alloc: Global,
+    request: &Request<'_>,
+) -> Result<String, AllocError> {
+    let text = request.first_file_bytes();
     let mut within: usize = 0;
     let mut all: usize = 0;
     for length in 0..text.len().saturating_add(1) {
@@ -70,7 +73,7 @@ pub fn beginnings_answer(alloc: Global, request: &Request<'_>) -> Result<String,
             bytes: Vec::from_slice(alloc, cut)?,
         };
         all = all.saturating_add(1);
-        if has_message_within(alloc, &file)? {
+        if has_message_at_place_in_file(alloc, &file)? {
             within = within.saturating_add(1);
         }
     }

@@ -35,7 +35,7 @@ pub enum Question {
 }
 
 /// The question `name` about the items of a text.
-fn question_about_items(name: &str) -> Option<Question> {
+fn question_about_items_named(name: &str) -> Option<Question> {
     match name {
         "runs" => Some(Question::Runs),
         "write" => Some(Question::Write),
@@ -57,6 +57,6 @@ pub fn question_named(name: &str) -> Option<Question> {
         "list" => Some(Question::List),
         "opening" => Some(Question::InitialState),
         "generate" => Some(Question::Generate),
-        _ => question_about_items(name),
+        _ => question_about_items_named(name),
     }
 }

@@ -1,11 +1,16 @@
 //! The answers to the requests of blocks.
 
-use crate::campaigns::{Pool, campaign_answer};
-use crate::examples::comments_answer;
-use crate::explained::{explain_answer, graph_answer, longest_answer};
-use crate::judged::item_warnings_answer;
-use crate::messages::{beginnings_answer, message_answer, warnings_answer};
-use crate::random::random_answer;
+use crate::campaigns::{SystemPool, campaign_report_and_status_answer};
+use crate::examples::judged_output_against_comments_answer;
+use crate::explained::{
+    explanations_and_status_answer, longest_explanation_line_length_answer,
+    search_graph_and_status_answer,
+};
+use crate::judged::judged_item_warnings_answer;
+use crate::messages::{
+    count_prefixes_with_placed_message_answer, model_warnings_answer, refusal_messages_answer,
+};
+use crate::random::random_expression_outcome_counts_answer;
 use pst_messages::MessageScope;
 use pst_sources::SourceFile;
 use std::alloc::{AllocError, Global};
@@ -21,7 +26,7 @@ pub struct Request<'a> {
 
 impl<'a> Request<'a> {
     /// The value of an option `NAME=VALUE`.
-    pub fn option(&self, name: &str) -> Option<&'a str> {
+    pub fn option_value(&self, name: &str) -> Option<&'a str> {
         for word in self.line.split(' ') {
             if let Some((found, value)) = word.split_once("=") {
                 if found == name {
@@ -33,15 +38,15 @@ impl<'a> Request<'a> {
     }
 
     /// The number that an option has, or another one without it.
-    pub fn number(&self, name: &str, without: u32) -> u32 {
-        match self.option(name) {
+    pub fn option_number_or_default(&self, name: &str, without: u32) -> u32 {
+        match self.option_value(name) {
             Some(value) => value.parse().unwrap_or(0),
             None => without,
         }
     }
 
     /// The bytes of the first file.
-    pub fn bytes(&self) -> &[u8] {
+    pub fn first_file_bytes(&self) -> &[u8] {
         match self.files.as_slice().first() {
             Some(file) => file.bytes.as_slice(),
             None => &[],
@@ -49,7 +54,11 @@ impl<'a> Request<'a> {
     }
 
     /// The names of the files but the first `count`, each after a blank.
-    pub fn names_after(&self, alloc: Global, count: usize) -> Result<String, AllocError> {
+    pub fn spaced_file_names_after_count(
+        &self,
+        alloc: Global,
+        count: usize,
+    ) -> Result<String, AllocError> {
         let mut names = String::new(alloc);
         for file in self.files.iter().skip(count) {
             names.push_str(" ")?;
@@ -60,45 +69,49 @@ impl<'a> Request<'a> {
 }
 
 /// The answer to a question on the texts of files, or that there is no such question.
-fn text_answer(alloc: Global, question: &str, request: &Request<'_>) -> Result<String, AllocError> {
+fn answer_to_question_about_texts(
+    alloc: Global,
+    question: &str,
+    request: &Request<'_>,
+) -> Result<String, AllocError> {
     match question {
-        "message" => message_answer(alloc, request, MessageScope::FirstItem),
-        "message_of_model" => message_answer(alloc, request, MessageScope::Model),
-        "messages" => message_answer(alloc, request, MessageScope::EachItem),
-        "beginnings" => beginnings_answer(alloc, request),
-        "warnings" => warnings_answer(alloc, request),
-        "random" => random_answer(alloc, request),
+        "message" => refusal_messages_answer(alloc, request, MessageScope::FirstItem),
+        "message_of_model" => refusal_messages_answer(alloc, request, MessageScope::Model),
+        "messages" => refusal_messages_answer(alloc, request, MessageScope::EachItem),
+        "beginnings" => count_prefixes_with_placed_message_answer(alloc, request),
+        "warnings" => model_warnings_answer(alloc, request),
+        "random" => random_expression_outcome_counts_answer(alloc, request),
         _ => String::from_str(alloc, "there is no such question\n"),
     }
 }
 
 /// The answer to a question whose items are judged in threads, or to one on the texts of files.
-fn judged_answer<R: Threads + Sync>(
+fn answer_to_judging_or_text_question<R: Threads + Sync>(
     rt: &R,
     alloc: Global,
     question: &str,
     request: &Request<'_>,
 ) -> Result<String, AllocError> {
     match question {
-        "explain" => explain_answer(rt, alloc, request),
-        "graph" => graph_answer(rt, alloc, request),
-        "longest" => longest_answer(rt, alloc, request),
-        "comments" => comments_answer(rt, alloc, request),
-        "warnings_on_runs" => item_warnings_answer(rt, alloc, request, false),
-        "warnings_on_answers" => item_warnings_answer(rt, alloc, request, true),
-        _ => text_answer(alloc, question, request),
+        "explain" => explanations_and_status_answer(rt, alloc, request),
+        "graph" => search_graph_and_status_answer(rt, alloc, request),
+        "longest" => longest_explanation_line_length_answer(rt, alloc, request),
+        "comments" => judged_output_against_comments_answer(rt, alloc, request),
+        "warnings_on_runs" => judged_item_warnings_answer(rt, alloc, request, false),
+        "warnings_on_answers" => judged_item_warnings_answer(rt, alloc, request, true),
+        _ => answer_to_question_about_texts(alloc, question, request),
     }
 }
 
 /// The answer to a request.
 pub fn answer_to_request<R: Threads + Wait + Sync + AllocGlobal>(
     rt: &R,
-    pool: &mut Pool,
+    pool: &mut SystemPool,
     request: &Request<'_>,
 ) -> anyhow::Result<String> {
     let question = request.line.split(' ').next().unwrap_or("");
     if question == "campaign" {
-        return campaign_answer(rt, pool, request);
+        return campaign_report_and_status_answer(rt, pool, request);
     }
-    Ok(judged_answer(rt, rt.alloc(), question, request)?)
+    Ok(answer_to_judging_or_text_question(rt, rt.alloc(), question, request)?)
 }

@@ -5,7 +5,7 @@
 //! before and after each row's text (`before TEXT`, `after TEXT`). A row is `TEXT => WANTED`; its text may have several
 //! lines. In all texts braces mean what `texts.rt` says.
 
-use crate::answers::{QuestionText, answer_to};
+use crate::answers::{QuestionText, answer_to_question};
 use crate::questions::{Question, question_named};
 use crate::tally::Tally;
 use crate::texts::text_with_braces_expanded;
@@ -22,7 +22,11 @@ struct TableHead {
 }
 
 /// The text after a word, on the line of a head that begins with the word, with what its braces mean.
-fn text_after<R: Files + AllocGlobal>(rt: &R, lines: &str, word: &str) -> io::Result<String> {
+fn expanded_text_after_keyword<R: Files + AllocGlobal>(
+    rt: &R,
+    lines: &str,
+    word: &str,
+) -> io::Result<String> {
     for line in lines.lines() {
         if let Some((first, text)) = line.split_once(" ") {
             if first == word {
@@ -34,13 +38,13 @@ fn text_after<R: Files + AllocGlobal>(rt: &R, lines: &str, word: &str) -> io::Re
 }
 
 /// Reads the lines of a head. `None` if there is no question of its name.
-fn read_head<R: Files + AllocGlobal>(rt: &R, lines: &str) -> io::Result<Option<TableHead>> {
-    let name = text_after(rt, lines, "ask")?;
+fn read_table_head<R: Files + AllocGlobal>(rt: &R, lines: &str) -> io::Result<Option<TableHead>> {
+    let name = expanded_text_after_keyword(rt, lines, "ask")?;
     let Some(question) = question_named(name.as_str()) else {
         return Ok(None);
     };
-    let before = text_after(rt, lines, "before")?;
-    let after = text_after(rt, lines, "after")?;
+    let before = expanded_text_after_keyword(rt, lines, "before")?;
+    let after = expanded_text_after_keyword(rt, lines, "after")?;
     Ok(Some(TableHead {
         question,
         before,
@@ -49,7 +53,7 @@ fn read_head<R: Files + AllocGlobal>(rt: &R, lines: &str) -> io::Result<Option<T
 }
 
 /// Checks a row, and prints it with its answer if that is not the wanted one.
-fn check_row<R: Threads + Sync + Files + Print + AllocGlobal>(
+fn check_row_and_print_wrong_answer<R: Threads + Sync + Files + Print + AllocGlobal>(
     rt: &R,
     tally: &mut Tally,
     head: &TableHead,
@@ -63,9 +67,9 @@ fn check_row<R: Threads + Sync + Files + Print + AllocGlobal>(
         text: whole.as_str(),
         after: head.after.as_str(),
     };
-    let answer = answer_to(rt, rt.alloc(), head.question, &question_text)?;
+    let answer = answer_to_question(rt, rt.alloc(), head.question, &question_text)?;
     let is_right = answer.as_str() == wanted.as_str();
-    tally.count(is_right);
+    tally.count_row(is_right);
     if is_right {
         return Ok(());
     }
@@ -73,7 +77,7 @@ fn check_row<R: Threads + Sync + Files + Print + AllocGlobal>(
 }
 
 /// Checks the rows of a table, and returns what is left of the last line that has an answer.
-fn check_rows<R: Threads + Sync + Files + Print + AllocGlobal>(
+fn check_rows_and_return_rest<R: Threads + Sync + Files + Print + AllocGlobal>(
     rt: &R,
     tally: &mut Tally,
     head: &TableHead,
@@ -84,7 +88,7 @@ fn check_rows<R: Threads + Sync + Files + Print + AllocGlobal>(
         match line.split_once("=>") {
             Some((end, want)) => {
                 text.push_str(end)?;
-                check_row(
+                check_row_and_print_wrong_answer(
                     rt,
                     tally,
                     head,
@@ -103,7 +107,7 @@ fn check_rows<R: Threads + Sync + Files + Print + AllocGlobal>(
 }
 
 /// Checks the rows of a table, and prints its name if a row of it has another answer.
-fn check_table<R: Threads + Sync + Files + Print + AllocGlobal>(
+fn check_table_and_print_wrong_rows<R: Threads + Sync + Files + Print + AllocGlobal>(
     rt: &R,
     tally: &mut Tally,
     place: &str,
@@ -112,11 +116,11 @@ fn check_table<R: Threads + Sync + Files + Print + AllocGlobal>(
     let Some((lines, rows)) = table.split_once("\n\n") else {
         return tally.print_and_count_problem(rt, place, "no rows");
     };
-    let Some(head) = read_head(rt, lines)? else {
+    let Some(head) = read_table_head(rt, lines)? else {
         return tally.print_and_count_problem(rt, place, "there is no such question");
     };
     let before = tally.misses;
-    let rest = check_rows(rt, tally, &head, rows)?;
+    let rest = check_rows_and_return_rest(rt, tally, &head, rows)?;
     if tally.misses > before {
         println!(rt; "  in {place}")?;
     }
@@ -127,7 +131,7 @@ fn check_table<R: Threads + Sync + Files + Print + AllocGlobal>(
 }
 
 /// Checks the rows of the tables of a file, and prints those that have another answer.
-pub fn check_tables<R: Threads + Sync + Files + Print + AllocGlobal>(
+pub fn check_tables_and_print_wrong_rows<R: Threads + Sync + Files + Print + AllocGlobal>(
     rt: &R,
     tally: &mut Tally,
     path: &str,
@@ -139,7 +143,7 @@ pub fn check_tables<R: Threads + Sync + Files + Print + AllocGlobal>(
     for table in whole.split("\ntable ").skip(1) {
         let (name, rest) = table.split_once("\n").unwrap_or((table, ""));
         let place = format!(in rt.alloc(); "{path} {name}")?;
-        check_table(rt, tally, place.as_str(), rest)?;
+        check_table_and_print_wrong_rows(rt, tally, place.as_str(), rest)?;
     }
     Ok(())
 }

@@ -17,7 +17,7 @@ impl Tally {
     }
 
     /// Counts a row, and whether it has the wanted answer.
-    pub fn count(&mut self, is_right: bool) {
+    pub fn count_row(&mut self, is_right: bool) {
         self.rows = self.rows.saturating_add(1);
         if !is_right {
             self.misses = self.misses.saturating_add(1);
@@ -37,7 +37,7 @@ impl Tally {
 }
 
 /// The lines of a text, with an empty last one if it ends in a line break.
-fn split_lines<'a>(alloc: Global, text: &'a str) -> Result<Vec<&'a str>, AllocError> {
+fn split_at_line_breaks<'a>(alloc: Global, text: &'a str) -> Result<Vec<&'a str>, AllocError> {
     let mut lines = Vec::new(alloc);
     for line in text.split('\n') {
         lines.push(line)?;
@@ -46,7 +46,7 @@ fn split_lines<'a>(alloc: Global, text: &'a str) -> Result<Vec<&'a str>, AllocEr
 }
 
 /// How many lines two lists have in common from the first one on.
-fn common_front(ones: &[&str], others: &[&str]) -> usize {
+fn count_common_first_lines(ones: &[&str], others: &[&str]) -> usize {
     let mut count: usize = 0;
     for (one, other) in ones.iter().zip(others.iter()) {
         if one != other {
@@ -58,7 +58,7 @@ fn common_front(ones: &[&str], others: &[&str]) -> usize {
 }
 
 /// How many lines two lists have in common from the last one back.
-fn common_back(ones: &[&str], others: &[&str]) -> usize {
+fn count_common_last_lines(ones: &[&str], others: &[&str]) -> usize {
     let mut count: usize = 0;
     for (one, other) in ones.iter().rev().zip(others.iter().rev()) {
         if one != other {
@@ -70,7 +70,11 @@ fn common_back(ones: &[&str], others: &[&str]) -> usize {
 }
 
 /// Prints the lines, each after the sign.
-fn print_lines<R: Print + AllocGlobal>(rt: &R, sign: &str, lines: &[&str]) -> io::Result<()> {
+fn print_lines_after_sign<R: Print + AllocGlobal>(
+    rt: &R,
+    sign: &str,
+    lines: &[&str],
+) -> io::Result<()> {
     for line in lines {
         println!(rt; "{sign} {line}")?;
     }
@@ -78,7 +82,7 @@ fn print_lines<R: Print + AllocGlobal>(rt: &R, sign: &str, lines: &[&str]) -> io
 }
 
 /// The lines without the first `front` and the last `back`.
-fn middle<'a>(lines: &'a [&'a str], front: usize, back: usize) -> &'a [&'a str] {
+fn lines_without_ends<'a>(lines: &'a [&'a str], front: usize, back: usize) -> &'a [&'a str] {
     let end = lines.len().saturating_sub(back);
     lines.get(front..end).unwrap_or(&[])
 }
@@ -90,12 +94,12 @@ pub fn print_difference<R: Print + AllocGlobal>(
     wanted: &str,
     answer: &str,
 ) -> io::Result<()> {
-    let wanted = split_lines(rt.alloc(), wanted)?;
-    let answer = split_lines(rt.alloc(), answer)?;
-    let front = common_front(wanted.as_slice(), answer.as_slice());
-    let wanted = middle(wanted.as_slice(), front, 0);
-    let answer = middle(answer.as_slice(), front, 0);
-    let back = common_back(wanted, answer);
-    print_lines(rt, "-", middle(wanted, 0, back))?;
-    print_lines(rt, "+", middle(answer, 0, back))
+    let wanted = split_at_line_breaks(rt.alloc(), wanted)?;
+    let answer = split_at_line_breaks(rt.alloc(), answer)?;
+    let front = count_common_first_lines(wanted.as_slice(), answer.as_slice());
+    let wanted = lines_without_ends(wanted.as_slice(), front, 0);
+    let answer = lines_without_ends(answer.as_slice(), front, 0);
+    let back = count_common_last_lines(wanted, answer);
+    print_lines_after_sign(rt, "-", lines_without_ends(wanted, 0, back))?;
+    print_lines_after_sign(rt, "+", lines_without_ends(answer, 0, back))
 }

@@ -9,7 +9,7 @@ use std::fs::Files;
 use std::{fs, io};
 
 /// Adds the part, in which each `#` is the next number, and returns the last number.
-fn push_numbered(
+fn push_part_with_next_numbers(
     alloc: Global,
     whole: &mut String,
     last: u64,
@@ -28,7 +28,7 @@ fn push_numbered(
 }
 
 /// Adds the part `count` times.
-fn push_repeated(
+fn push_part_repeated_and_numbered(
     alloc: Global,
     whole: &mut String,
     count: usize,
@@ -39,13 +39,13 @@ fn push_repeated(
     }
     let mut number: u64 = 0;
     for _ in 0..count {
-        number = push_numbered(alloc, whole, number, part)?;
+        number = push_part_with_next_numbers(alloc, whole, number, part)?;
     }
     Ok(())
 }
 
 /// The character of that name, if it is one that is hard to see in a text, or has a meaning there.
-fn character_named(name: &str) -> Option<&'static str> {
+fn special_character_named(name: &str) -> Option<&'static str> {
     match name {
         "nul" => Some("\0"),
         "tab" => Some("\t"),
@@ -58,7 +58,11 @@ fn character_named(name: &str) -> Option<&'static str> {
 }
 
 /// Adds the text of the file `NAME.model` in `models`, or in the folder that the name begins with.
-fn push_model<R: Files + AllocGlobal>(rt: &R, whole: &mut String, name: &str) -> io::Result<()> {
+fn push_text_of_model_file<R: Files + AllocGlobal>(
+    rt: &R,
+    whole: &mut String,
+    name: &str,
+) -> io::Result<()> {
     let file = if name.contains('/') {
         format!(in rt.alloc(); "{name}.model")?
     } else {
@@ -70,18 +74,22 @@ fn push_model<R: Files + AllocGlobal>(rt: &R, whole: &mut String, name: &str) ->
 }
 
 /// Adds what is in braces: `{NAME}` or `{N*PART}`.
-fn push_braced<R: Files + AllocGlobal>(rt: &R, whole: &mut String, inside: &str) -> io::Result<()> {
+fn push_expansion_of_braces<R: Files + AllocGlobal>(
+    rt: &R,
+    whole: &mut String,
+    inside: &str,
+) -> io::Result<()> {
     if let Some((count, part)) = inside.split_once("*") {
         let count: usize = count.parse().unwrap_or(0);
-        push_repeated(rt.alloc(), whole, count, part)?;
+        push_part_repeated_and_numbered(rt.alloc(), whole, count, part)?;
         return Ok(());
     }
-    match character_named(inside) {
+    match special_character_named(inside) {
         Some(character) => {
             whole.push_str(character)?;
             Ok(())
         }
-        None => push_model(rt, whole, inside),
+        None => push_text_of_model_file(rt, whole, inside),
     }
 }
 
@@ -92,7 +100,7 @@ pub fn text_with_braces_expanded<R: Files + AllocGlobal>(rt: &R, text: &str) -> 
         let mut rest = piece;
         if index > 0 {
             if let Some((inside, after)) = piece.split_once("}") {
-                push_braced(rt, &mut whole, inside)?;
+                push_expansion_of_braces(rt, &mut whole, inside)?;
                 rest = after;
             }
         }

@@ -7,11 +7,11 @@ use Rattle.std.specs.Str.{bytes_eq}
 use Rattle.std.proofs.lemmas.Slice.Eq.{bytes_eq-Decides}
 use Rattle.pst_run_problems.proofs.Agree.{Agrees, both_agree, later_found, none_agree, then_agree, found_agree, map_agree, some_agree, nested_agree, each_agree, length_each}
 use Rattle.pst_run_problems.specs.ItemForm.{word, is_word, is_call_at, is_call, no_call, calls_fault, in_section, section_fault, in_branch, branch_fault, branches_from, branches_fault, count, in_replies, replies_fault, end_fault, in_suffix, rest_fault, right_fault, in_branches, after_prefix, parts_fault, case_fault, form_fault}
-use Rattle.pst_run_problems.specs.declared.form_fault.FormFault.{FormFault}
-use Rattle.pst_run_problems.specs.declared.form_fault.FormFault.TheVariants.{Missing, NoCall, NoBranchCall}
-use Rattle.pst_run_problems.specs.declared.form_fault.ListedParts.{ListedParts}
-use Rattle.pst_run_problems.specs.declared.form_fault.Section.{Section}
-use Rattle.pst_run_problems.specs.declared.form_fault.Section.TheVariants.{Prefix, Left, Right, Replies}
+use Rattle.pst_run_problems.specs.declared.form_fault.CaseFormFault.{CaseFormFault}
+use Rattle.pst_run_problems.specs.declared.form_fault.CaseFormFault.TheVariants.{Missing, NoCall, NoBranchCall}
+use Rattle.pst_run_problems.specs.declared.form_fault.PartsWithReplyLists.{PartsWithReplyLists}
+use Rattle.pst_run_problems.specs.declared.form_fault.RunSection.{RunSection}
+use Rattle.pst_run_problems.specs.declared.form_fault.RunSection.TheVariants.{Prefix, Left, Right, Replies}
 use Rattle.pst_model.specs.declared.model.Source.{Source}
 use Rattle.pst_runs.specs.Commands.{command_of, command_in, commands_of}
 use Rattle.pst_runs.specs.Forms as form
@@ -46,7 +46,7 @@ calls_agree m forms = record { same = each_agree (λ f. not (is_call f)) (comman
 calls_fault_agrees : (m : Source) (place : ℕ) (commands : List Form) → Agrees (calls_fault place commands) (commands_of m commands)
 calls_fault_agrees m place commands = map_agree (no_call commands) (λ offset. NoCall place (offset + 1)) (commands_of m commands) (calls_agree m commands)
 
-pub section_agrees : (m : Source) (wanted : Section) (place : ℕ) (o : Option (List Form)) → Agrees (in_section wanted place o) (and_then o (commands_of m))
+pub section_agrees : (m : Source) (wanted : RunSection) (place : ℕ) (o : Option (List Form)) → Agrees (in_section wanted place o) (and_then o (commands_of m))
 section_agrees m wanted place None = both_agree _
 section_agrees m wanted place (Some commands) = calls_fault_agrees m place commands
 
@@ -97,17 +97,17 @@ apart one other f found d h = apart_node one other (node_of f) d found h
 
 -- ---- the lists of replies
 
-lists_tested : {A : Type 0} (a b : Bool) (f g : FormFault) (x : A) → Agrees (if a then (if b then None else Some f) else Some g) (if a && b then Some x else None)
+lists_tested : {A : Type 0} (a b : Bool) (f g : CaseFormFault) (x : A) → Agrees (if a then (if b then None else Some f) else Some g) (if a && b then Some x else None)
 lists_tested true true f g x = none_agree x
 lists_tested true false f g x = both_agree f
 lists_tested false b f g x = both_agree g
 
 -- the replies of a run: as many lists as parts
-replies_at : (c : SpelledCase) (sections : form.Sections) (parts : ListedParts) (place : ℕ) (o : Option (List Form)) → count parts ≡ form.number_of_parts sections.suffix c → Agrees {A = FormFault} {B = form.Parts} (in_replies parts place o []) (and_then o (λ lists. if form.is_number_of_parts (length lists) sections c && list_all (λ list. form.is_node (node_of list)) lists then Some (record { read = c; replies = Some lists }) else None))
+replies_at : (c : SpelledCase) (sections : form.Sections) (parts : PartsWithReplyLists) (place : ℕ) (o : Option (List Form)) → count parts ≡ form.number_of_parts sections.suffix c → Agrees {A = CaseFormFault} {B = form.Parts} (in_replies parts place o []) (and_then o (λ lists. if form.is_number_of_parts (length lists) sections c && list_all (λ list. form.is_node (node_of list)) lists then Some (record { read = c; replies = Some lists }) else None))
 replies_at c sections parts place None e = both_agree _
 replies_at c sections parts place (Some lists) e = rw (← e) (lists_tested (length lists == count parts) _ _ _ _)
 
-replies_agree : (c : SpelledCase) (sections : form.Sections) (parts : ListedParts) (place : ℕ) (z : Form) → count parts ≡ form.number_of_parts sections.suffix c → Agrees (replies_fault parts place z []) (form.with_replies z sections c)
+replies_agree : (c : SpelledCase) (sections : form.Sections) (parts : PartsWithReplyLists) (place : ℕ) (z : Form) → count parts ≡ form.number_of_parts sections.suffix c → Agrees (replies_fault parts place z []) (form.with_replies z sections c)
 replies_agree c sections parts place z e = replies_at c sections parts place (form.section (codes "replies") z) e
 
 -- ---- the parts
@@ -124,25 +124,25 @@ after_branches m suffix g p bs = and_then (and_then (form.suffix_of m suffix) (�
 abbrev with_branches : Source → Option (List Form) → (SpelledCase → Option form.Parts) → List SpelledCommand → Option (List (List SpelledCommand)) → Option form.Parts
 with_branches m suffix g p bs = and_then bs (after_branches m suffix g p)
 
-part_agrees : (m : Source) (wanted : Section) (place : ℕ) (a : Form) → Agrees (section_fault wanted place a) (form.section_commands m (word wanted) a)
+part_agrees : (m : Source) (wanted : RunSection) (place : ℕ) (a : Form) → Agrees (section_fault wanted place a) (form.section_commands m (word wanted) a)
 part_agrees m wanted place a = section_agrees m wanted place (form.section (word wanted) a)
 
-prefix_then : (m : Source) (a : Form) (others : List Form) (suffix : Option (List Form)) (y : Option FormFault) (g : SpelledCase → Option form.Parts) (bs : Option (List (List SpelledCommand))) → form.branches_of m others ≡ bs → ((p : List SpelledCommand) → Agrees y (with_branches m suffix g p bs)) → Agrees (option_or (section_fault Prefix 1 a) y) (and_then (form.case_in m (a ∷ others) suffix) g)
+prefix_then : (m : Source) (a : Form) (others : List Form) (suffix : Option (List Form)) (y : Option CaseFormFault) (g : SpelledCase → Option form.Parts) (bs : Option (List (List SpelledCommand))) → form.branches_of m others ≡ bs → ((p : List SpelledCommand) → Agrees y (with_branches m suffix g p bs)) → Agrees (option_or (section_fault Prefix 1 a) y) (and_then (form.case_in m (a ∷ others) suffix) g)
 prefix_then m a others suffix y g bs e h =
     nested_agree _ (form.section_commands m (codes "prefix") a) (λ p. and_then (form.branches_of m others) (λ found. and_then (form.suffix_of m suffix) (λ s. Some (record { prefix = p; branches = found; suffix = s })))) g
     (then_agree (section_fault Prefix 1 a) y (form.section_commands m (codes "prefix") a) _ (part_agrees m Prefix 1 a)
     (λ p _. nested_agree y (form.branches_of m others) (λ found. and_then (form.suffix_of m suffix) (λ s. Some (record { prefix = p; branches = found; suffix = s }))) g
     (subst (λ found. Agrees y (with_branches m suffix g p found)) (sym e) (h p))))
 
-refused : (m : Source) (a : Form) (others : List Form) (suffix : Option (List Form)) (y : Option FormFault) (g : SpelledCase → Option form.Parts) → form.branches_of m others ≡ None → Agrees {A = FormFault} {B = form.Parts} y None → Agrees (option_or (section_fault Prefix 1 a) y) (and_then (form.case_in m (a ∷ others) suffix) g)
+refused : (m : Source) (a : Form) (others : List Form) (suffix : Option (List Form)) (y : Option CaseFormFault) (g : SpelledCase → Option form.Parts) → form.branches_of m others ≡ None → Agrees {A = CaseFormFault} {B = form.Parts} y None → Agrees (option_or (section_fault Prefix 1 a) y) (and_then (form.case_in m (a ∷ others) suffix) g)
 refused m a others suffix y g e h = prefix_then m a others suffix y g None e (λ p. h)
 
-many_then : (m : Source) (forms : List Form) (y : Option FormFault) (k : List (List SpelledCommand) → Option form.Parts) → ((bs : List (List SpelledCommand)) → length bs ≡ length forms → Agrees y (k bs)) → Agrees (option_or (branches_fault forms) y) (and_then (form.each_branch m forms) k)
+many_then : (m : Source) (forms : List Form) (y : Option CaseFormFault) (k : List (List SpelledCommand) → Option form.Parts) → ((bs : List (List SpelledCommand)) → length bs ≡ length forms → Agrees y (k bs)) → Agrees (option_or (branches_fault forms) y) (and_then (form.each_branch m forms) k)
 many_then m forms y k h =
     then_agree (branches_fault forms) y (form.each_branch m forms) k (branches_agree m forms)
     (λ bs e. h bs (length_branches m forms bs e))
 
-two_then : (m : Source) (b c : Form) (y : Option FormFault) (k : List (List SpelledCommand) → Option form.Parts) → ((bs : List (List SpelledCommand)) → length bs ≡ 2 → Agrees y (k bs)) → Agrees (option_or (section_fault Left 2 b) (option_or (section_fault Right 3 c) y)) (and_then (form.two_branches m b c) k)
+two_then : (m : Source) (b c : Form) (y : Option CaseFormFault) (k : List (List SpelledCommand) → Option form.Parts) → ((bs : List (List SpelledCommand)) → length bs ≡ 2 → Agrees y (k bs)) → Agrees (option_or (section_fault Left 2 b) (option_or (section_fault Right 3 c) y)) (and_then (form.two_branches m b c) k)
 two_then m b c y k h =
     nested_agree _ (form.section_commands m (codes "left") b) (λ l. and_then (form.section_commands m (codes "right") c) (λ r. Some (l ∷ r ∷ []))) k
     (then_agree (section_fault Left 2 b) (option_or (section_fault Right 3 c) y) (form.section_commands m (codes "left") b) _ (part_agrees m Left 2 b)
@@ -150,7 +150,7 @@ two_then m b c y k h =
     (then_agree (section_fault Right 3 c) y (form.section_commands m (codes "right") c) _ (part_agrees m Right 3 c)
     (λ r _. h (l ∷ r ∷ []) refl))))
 
-suffix_then : (m : Source) (place : ℕ) (cs : List Form) (y : Option FormFault) (g : SpelledCase → Option form.Parts) (p : List SpelledCommand) (bs : List (List SpelledCommand)) → ((s : List SpelledCommand) → Agrees y (g (record { prefix = p; branches = bs; suffix = s }))) → Agrees (option_or (calls_fault place cs) y) (after_branches m (Some cs) g p bs)
+suffix_then : (m : Source) (place : ℕ) (cs : List Form) (y : Option CaseFormFault) (g : SpelledCase → Option form.Parts) (p : List SpelledCommand) (bs : List (List SpelledCommand)) → ((s : List SpelledCommand) → Agrees y (g (record { prefix = p; branches = bs; suffix = s }))) → Agrees (option_or (calls_fault place cs) y) (after_branches m (Some cs) g p bs)
 suffix_then m place cs y g p bs h =
     nested_agree _ (commands_of m cs) (λ s. Some (record { prefix = p; branches = bs; suffix = s })) g
     (then_agree (calls_fault place cs) y (commands_of m cs) _
@@ -170,9 +170,9 @@ ends_none r n place c ts x e h = subst (λ o. Agrees (in_suffix r n place o c ts
 ends_some : {B : Type 0} (r : Bool) (n place : ℕ) (c : Form) (ts cs : List Form) (x : Option B) → form.section (codes "suffix") c ≡ Some cs → Agrees (option_or (calls_fault place cs) (end_fault r (record { branches = n; has_suffix = true }) (place + 1) ts)) x → Agrees (rest_fault r n place (c ∷ ts)) x
 ends_some r n place c ts cs x e h = subst (λ o. Agrees (in_suffix r n place o c ts) x) (sym e) h
 
-no_right : (r : Bool) (c : Form) (ts cs : List Form) → form.section (codes "suffix") c ≡ Some cs → Agrees {A = FormFault} {B = form.Parts} (right_fault r (c ∷ ts)) None
+no_right : (r : Bool) (c : Form) (ts cs : List Form) → form.section (codes "suffix") c ≡ Some cs → Agrees {A = CaseFormFault} {B = form.Parts} (right_fault r (c ∷ ts)) None
 no_right r c ts cs e =
-    subst (λ o. Agrees {A = FormFault} {B = form.Parts} (option_or (in_section Right 3 o) (rest_fault r 2 4 ts)) None)
+    subst (λ o. Agrees {A = CaseFormFault} {B = form.Parts} (option_or (in_section Right 3 o) (rest_fault r 2 4 ts)) None)
     (sym (apart (codes "suffix") (codes "right") c cs refl e)) (both_agree _)
 
 -- the branches of a `(branches ..)` tree, and of no other
@@ -187,17 +187,17 @@ no_two m b c forms e =
     ap (λ o. and_then (and_then o (commands_of m)) (λ l. and_then (form.section_commands m (codes "right") c) (λ r. Some (l ∷ r ∷ []))))
     (apart (codes "branches") (codes "left") b forms refl e)
 
-found_in : {B : Type 0} (r : Bool) (o : Option (List Form)) (b : Form) (rest : List Form) → Agrees {A = FormFault} {B = B} (right_fault r rest) None → ((n : ℕ) → Agrees {A = FormFault} {B = B} (rest_fault r n 3 rest) None) → Agrees {A = FormFault} {B = B} (in_branches r o b rest) None
+found_in : {B : Type 0} (r : Bool) (o : Option (List Form)) (b : Form) (rest : List Form) → Agrees {A = CaseFormFault} {B = B} (right_fault r rest) None → ((n : ℕ) → Agrees {A = CaseFormFault} {B = B} (rest_fault r n 3 rest) None) → Agrees {A = CaseFormFault} {B = B} (in_branches r o b rest) None
 found_in r None b rest h k = later_found _ _ h
 found_in r (Some bs) b rest h k = later_found _ _ (k (length bs))
 
 -- what is found in the trees behind a case, and what is read from them
 pub record Ending (r : Bool) (ts : List Form) (g : form.Sections → SpelledCase → Option form.Parts) : Type 0 where
-  pub none : Agrees {A = FormFault} {B = form.Parts} (parts_fault r ts) None
-  pub prefix : Agrees {A = FormFault} {B = form.Parts} (after_prefix r ts) None
-  pub left : Agrees {A = FormFault} {B = form.Parts} (right_fault r ts) None
-  pub extra : (n place : ℕ) (c : Form) → Agrees {A = FormFault} {B = form.Parts} (end_fault r (record { branches = n; has_suffix = false }) place (c ∷ ts)) None
-  pub long : (n place : ℕ) (c d : Form) (more : List Form) → Agrees {A = FormFault} {B = form.Parts} (rest_fault r n place (c ∷ d ∷ (more ++ ts))) None
+  pub none : Agrees {A = CaseFormFault} {B = form.Parts} (parts_fault r ts) None
+  pub prefix : Agrees {A = CaseFormFault} {B = form.Parts} (after_prefix r ts) None
+  pub left : Agrees {A = CaseFormFault} {B = form.Parts} (right_fault r ts) None
+  pub extra : (n place : ℕ) (c : Form) → Agrees {A = CaseFormFault} {B = form.Parts} (end_fault r (record { branches = n; has_suffix = false }) place (c ∷ ts)) None
+  pub long : (n place : ℕ) (c d : Form) (more : List Form) → Agrees {A = CaseFormFault} {B = form.Parts} (rest_fault r n place (c ∷ d ∷ (more ++ ts))) None
   pub plain : (s : form.Sections) (c : SpelledCase) (n place : ℕ) → s.suffix ≡ None → length c.branches ≡ n → Agrees (rest_fault r n place ts) (g s c)
   pub ended : (s : form.Sections) (c : SpelledCase) (n place : ℕ) (cs : List Form) → s.suffix ≡ Some cs → length c.branches ≡ n → Agrees (end_fault r (record { branches = n; has_suffix = true }) place ts) (g s c)
 
@@ -255,7 +255,7 @@ front_some : (f : Form) (fs : List Form) → (p : List Form × Form) × (form.fr
 front_some f [] = (([], f), refl)
 front_some f (next ∷ fs) = let more = front_some next fs in ((f ∷ more.0.0, more.0.1), rw more.1 refl)
 
-many_found : (r : Bool) (ts : List Form) (g : form.Sections → SpelledCase → Option form.Parts) → Ending r ts g → (b c d e : Form) (more : List Form) → Agrees {A = FormFault} {B = form.Parts} (after_prefix r (b ∷ c ∷ d ∷ e ∷ (more ++ ts))) None
+many_found : (r : Bool) (ts : List Form) (g : form.Sections → SpelledCase → Option form.Parts) → Ending r ts g → (b c d e : Form) (more : List Form) → Agrees {A = CaseFormFault} {B = form.Parts} (after_prefix r (b ∷ c ∷ d ∷ e ∷ (more ++ ts))) None
 many_found r ts g h b c d e more =
     found_in r (form.section (codes "branches") b) b (c ∷ d ∷ e ∷ (more ++ ts))
     (later_found _ _ (h.long 2 4 d e more))
@@ -280,7 +280,7 @@ body m r ts g h (a ∷ b ∷ c ∷ d ∷ e ∷ more) =
 
 -- ---- behind a case, and behind a run
 
-long_case : (n place : ℕ) (o : Option (List Form)) (c d : Form) (more : List Form) → Agrees {A = FormFault} {B = form.Parts} (in_suffix false n place o c (d ∷ more)) None
+long_case : (n place : ℕ) (o : Option (List Form)) (c d : Form) (more : List Form) → Agrees {A = CaseFormFault} {B = form.Parts} (in_suffix false n place o c (d ∷ more)) None
 long_case n place None c d more = both_agree _
 long_case n place (Some cs) c d more = found_agree _ _
 
@@ -309,15 +309,15 @@ case_agrees m parts =
     subst (λ ps. Agrees (parts_fault false ps) (form.case_parts m parts)) (all_of parts)
     (body m false [] no_replies case_ending parts)
 
-replies_long : (parts : ListedParts) (place : ℕ) (o : Option (List Form)) (d : Form) (more : List Form) → Agrees {A = FormFault} {B = form.Parts} (in_replies parts place o (d ∷ more)) None
+replies_long : (parts : PartsWithReplyLists) (place : ℕ) (o : Option (List Form)) (d : Form) (more : List Form) → Agrees {A = CaseFormFault} {B = form.Parts} (in_replies parts place o (d ∷ more)) None
 replies_long parts place None d more = both_agree _
 replies_long parts place (Some lists) d more = both_agree _
 
-end_long : (parts : ListedParts) (place : ℕ) (c : Form) (more : List Form) (z : Form) → Agrees {A = FormFault} {B = form.Parts} (end_fault true parts place (c ∷ (more ++ z ∷ []))) None
+end_long : (parts : PartsWithReplyLists) (place : ℕ) (c : Form) (more : List Form) (z : Form) → Agrees {A = CaseFormFault} {B = form.Parts} (end_fault true parts place (c ∷ (more ++ z ∷ []))) None
 end_long parts place c [] z = replies_long parts place (form.section (codes "replies") c) z []
 end_long parts place c (d ∷ more) z = replies_long parts place (form.section (codes "replies") c) d (more ++ z ∷ [])
 
-long_run : (n place : ℕ) (o : Option (List Form)) (c d : Form) (more : List Form) (z : Form) → Agrees {A = FormFault} {B = form.Parts} (in_suffix true n place o c (d ∷ (more ++ z ∷ []))) None
+long_run : (n place : ℕ) (o : Option (List Form)) (c d : Form) (more : List Form) (z : Form) → Agrees {A = CaseFormFault} {B = form.Parts} (in_suffix true n place o c (d ∷ (more ++ z ∷ []))) None
 long_run n place None c d more z = replies_long (record { branches = n; has_suffix = false }) place (form.section (codes "replies") c) d (more ++ z ∷ [])
 long_run n place (Some cs) c d more z = later_found _ _ (end_long (record { branches = n; has_suffix = true }) (place + 1) d more z)
 
@@ -336,7 +336,7 @@ plain_run : (z : Form) (s : form.Sections) (c : SpelledCase) (n place : ℕ) →
 plain_run z s c n place e q = elim (decide (form.section (codes "suffix") z)) [
   | inl k ↦ ends_none true n place z [] _ k (replies_agree c s (record { branches = n; has_suffix = false }) place z (no_suffix_count s c n e q))
   | inr k ↦ ends_some true n place z [] k.0 _ k.1
-      (subst (λ o. Agrees {A = FormFault} {B = form.Parts} (option_or (calls_fault place k.0) (Some (Missing Replies))) o) (sym (no_lists z s c k.0 k.1)) (found_agree _ _))
+      (subst (λ o. Agrees {A = CaseFormFault} {B = form.Parts} (option_or (calls_fault place k.0) (Some (Missing Replies))) o) (sym (no_lists z s c k.0 k.1)) (found_agree _ _))
 ]
 
 run_ending : (z : Form) → Ending true (z ∷ []) (form.with_replies z)

@@ -4,9 +4,9 @@ use Rattle.std.specs.Option.{option_map}
 use Rattle.std.proofs.lemmas.Option.{slice_get_read, slice_get-map}
 use Rattle.std.proofs.lemmas.Bool.Decides.{nat_tests}
 use Rattle.pst_run_problems.specs.ValuePlaces.{Role, Parts, AreItems, AreEntries, role_of, role_at, for_part, leads, leads_in, call_leads, is_led, is_led_in, parts_in, type_of}
-use Rattle.pst_run_problems.specs.declared.value_fault.Found.{Found}
-use Rattle.pst_run_problems.specs.declared.value_fault.Types.{Types}
-use Rattle.pst_run_problems.specs.declared.value_fault.Types.TheVariants as types
+use Rattle.pst_run_problems.specs.declared.value_fault.FoundValueFault.{FoundValueFault}
+use Rattle.pst_run_problems.specs.declared.value_fault.WantedTypes.{WantedTypes}
+use Rattle.pst_run_problems.specs.declared.value_fault.WantedTypes.TheVariants as types
 use Rattle.pst_run_problems.specs.declared.value_fault.Wanted.{Wanted}
 use Rattle.pst_model.specs.Parts.{types_of}
 use Rattle.pst_model.specs.declared.model.Param.{Param}
@@ -17,7 +17,7 @@ use Rattle.pst_value.specs.declared.key.KeyTy.{KeyTy}
 use Rattle.pst_value.specs.declared.ty.Ty.{Ty}
 
 -- what a fault that is found among the entries of a map says of the trees
-pub entries_led : (m : Source) (rs : List Ty) (tys : Types) (kind : Option KeyTy) (w : Wanted) (trees : List Form) (o : Option Found) (found : Found) → tys ≡ types.Entries kind w → o ≡ Some found → ((m : Source) (rs : List Ty) (t : Option Ty) → is_led_in m rs (AreEntries kind t) trees o ≡ true) → leads_in m rs (parts_in tys) trees found.path ≡ true
+pub entries_led : (m : Source) (rs : List Ty) (tys : WantedTypes) (kind : Option KeyTy) (w : Wanted) (trees : List Form) (o : Option FoundValueFault) (found : FoundValueFault) → tys ≡ types.Entries kind w → o ≡ Some found → ((m : Source) (rs : List Ty) (t : Option Ty) → is_led_in m rs (AreEntries kind t) trees o ≡ true) → leads_in m rs (parts_in tys) trees found.path ≡ true
 entries_led m rs tys kind w trees o found e k h =
     let a : is_led_in m rs (AreEntries kind (type_of w)) trees (Some found) ≡ true = ap (is_led_in m rs (AreEntries kind (type_of w)) trees) (sym k) ∙ h m rs (type_of w) in
     ap (λ ty. leads_in m rs (parts_in ty) trees found.path) e ∙ a
@@ -35,7 +35,7 @@ part_led m rs parts trees n role tree path e k h =
     ∙ ap (λ o. for_part (and_then o (λ t. Some (role, t))) (leads m rs path)) k
     ∙ h
 
-pub read_led : (m : Source) (rs : List Ty) (tys : Types) (trees : List Form) (n : ℕ) (role : Role) (tree : Form) (o p : Option Found) (found : Found) (path : List ℕ) → 0 < n → n < length trees → tree ≡ get_or trees n tree → role_at (parts_in tys) trees n ≡ Some role → o ≡ Some found → o ≡ p → path ≡ n ∷ found.path → is_led m rs role tree p ≡ true → leads_in m rs (parts_in tys) trees path ≡ true
+pub read_led : (m : Source) (rs : List Ty) (tys : WantedTypes) (trees : List Form) (n : ℕ) (role : Role) (tree : Form) (o p : Option FoundValueFault) (found : FoundValueFault) (path : List ℕ) → 0 < n → n < length trees → tree ≡ get_or trees n tree → role_at (parts_in tys) trees n ≡ Some role → o ≡ Some found → o ≡ p → path ≡ n ∷ found.path → is_led m rs role tree p ≡ true → leads_in m rs (parts_in tys) trees path ≡ true
 read_led m rs tys trees n role tree o p found path z l g r k j e h =
     let a : is_led m rs role tree (Some found) ≡ true = ap (is_led m rs role tree) (sym k ∙ j) ∙ h in
     ap (leads_in m rs (parts_in tys) trees) e

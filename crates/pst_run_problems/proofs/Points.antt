@@ -11,11 +11,11 @@ use Rattle.std.proofs.Common.{get_or}
 use Rattle.pst_run_problems.proofs.FormAgrees.{call_same, form_agrees}
 use Rattle.pst_run_problems.specs.ItemForm.{word, is_call, no_call, calls_fault, in_section, section_fault, in_branch, branch_fault, branches_from, branches_fault, after_all, count, lists_fault, in_replies, end_fault, in_suffix, rest_fault, right_fault, in_branches, after_prefix, parts_fault, case_fault, form_fault}
 use Rattle.pst_run_problems.specs.Places.{place, is_wanted, is_refused, refused}
-use Rattle.pst_run_problems.specs.declared.form_fault.FormFault.{FormFault}
-use Rattle.pst_run_problems.specs.declared.form_fault.FormFault.TheVariants.{OtherHead, Missing, OtherPart, NoCall, BranchCount, NoBranch, NoBranchCall, Misplaced, ListCount, NoList}
-use Rattle.pst_run_problems.specs.declared.form_fault.ListedParts.{ListedParts}
-use Rattle.pst_run_problems.specs.declared.form_fault.Section.{Section}
-use Rattle.pst_run_problems.specs.declared.form_fault.Section.TheVariants.{Prefix, Left, Right, Replies}
+use Rattle.pst_run_problems.specs.declared.form_fault.CaseFormFault.{CaseFormFault}
+use Rattle.pst_run_problems.specs.declared.form_fault.CaseFormFault.TheVariants.{OtherHead, Missing, OtherPart, NoCall, BranchCount, NoBranch, NoBranchCall, Misplaced, ListCount, NoList}
+use Rattle.pst_run_problems.specs.declared.form_fault.PartsWithReplyLists.{PartsWithReplyLists}
+use Rattle.pst_run_problems.specs.declared.form_fault.RunSection.{RunSection}
+use Rattle.pst_run_problems.specs.declared.form_fault.RunSection.TheVariants.{Prefix, Left, Right, Replies}
 use Rattle.pst_model.specs.declared.model.Source.{Source}
 use Rattle.pst_runs.specs.Commands.{command_of}
 use Rattle.pst_runs.specs.Forms as form
@@ -23,25 +23,25 @@ use Rattle.pst_sexpr.specs.Parts.{and_then, word_of, node_of, tree_in}
 use Rattle.pst_sexpr.specs.declared.form.Form.{Form}
 
 -- the tree that a path leads to from the trees of the item; a path of no numbers leads to the item
-abbrev at_path : Source → FormFault → List Form → List ℕ → Type 0
+abbrev at_path : Source → CaseFormFault → List Form → List ℕ → Type 0
 at_path m fault trees [] = Unit {0}
 at_path m fault trees (number ∷ path) = is_refused m fault (and_then (slice_get trees number) (tree_in path)) ≡ true
 
 -- each fault that is found points at a tree that is refused
-pub record Points (m : Source) (trees : List Form) (found : Option FormFault) : Type 0 where
-  pub points : (fault : FormFault) → found ≡ Some fault → at_path m fault trees (place fault)
+pub record Points (m : Source) (trees : List Form) (found : Option CaseFormFault) : Type 0 where
+  pub points : (fault : CaseFormFault) → found ≡ Some fault → at_path m fault trees (place fault)
 
 pub nothing : (m : Source) (trees : List Form) → Points m trees None
 nothing m trees = record { points = λ fault e. absurd (cc) }
 
-found : (m : Source) (trees : List Form) (fault : FormFault) → at_path m fault trees (place fault) → Points m trees (Some fault)
+found : (m : Source) (trees : List Form) (fault : CaseFormFault) → at_path m fault trees (place fault) → Points m trees (Some fault)
 found m trees fault h = record { points = λ other e. let same : fault ≡ other = cc in subst (λ f. at_path m f trees (place f)) same h }
 
-either : (m : Source) (trees : List Form) (x y : Option FormFault) → Points m trees x → Points m trees y → Points m trees (option_or x y)
+either : (m : Source) (trees : List Form) (x y : Option CaseFormFault) → Points m trees x → Points m trees y → Points m trees (option_or x y)
 either m trees None y h k = k
 either m trees (Some fault) y h k = h
 
-mapped : (m : Source) (trees : List Form) (n : Option ℕ) (g : ℕ → FormFault) → ((i : ℕ) → n ≡ Some i → at_path m (g i) trees (place (g i))) → Points m trees (option_map g n)
+mapped : (m : Source) (trees : List Form) (n : Option ℕ) (g : ℕ → CaseFormFault) → ((i : ℕ) → n ≡ Some i → at_path m (g i) trees (place (g i))) → Points m trees (option_map g n)
 mapped m trees None g h = nothing m trees
 mapped m trees (Some i) g h = found m trees (g i) (h i refl)
 
@@ -72,7 +72,7 @@ no_call_at m (first ∷ forms) i e =
     let p = position-Some (λ f. not (is_call f)) all i first e in
     (get_or all i first, slice_get-get_or all i first p.0, sym (call_same m (get_or all i first)) ∙ p.1)
 
-wrong : (m : Source) (fault : FormFault) (o : Option Form) (f : Form) → o ≡ Some f → not (is_wanted m fault f) ≡ true → is_refused m fault o ≡ true
+wrong : (m : Source) (fault : CaseFormFault) (o : Option Form) (f : Form) → o ≡ Some f → not (is_wanted m fault f) ≡ true → is_refused m fault o ≡ true
 wrong m fault o f e h = subst (λ t. is_refused m fault t ≡ true) (sym e) h
 
 step : (trees : List Form) (number : ℕ) (path : List ℕ) (f : Form) → slice_get trees number ≡ Some f → and_then (slice_get trees number) (tree_in path) ≡ tree_in path f
@@ -105,7 +105,7 @@ calls_points m trees number a name commands e k =
     (step trees number ((i + 1) ∷ []) a e ∙ into a (node.0 ∷ commands) (i + 1) [] node.1 ∙ step (node.0 ∷ commands) (i + 1) [] bad.0 later)
     bad.2)
 
-section_points : (m : Source) (trees : List Form) (wanted : Section) (number : ℕ) (a : Form) → slice_get trees number ≡ Some a → Points m trees (section_fault wanted number a)
+section_points : (m : Source) (trees : List Form) (wanted : RunSection) (number : ℕ) (a : Form) → slice_get trees number ≡ Some a → Points m trees (section_fault wanted number a)
 section_points m trees wanted number a e = elim (decided (form.section (word wanted) a)) [
   | inl k ↦ subst (λ o. Points m trees (in_section wanted number o)) (sym k)
       (found m trees (OtherPart wanted number) (wrong m (OtherPart wanted number) _ a (step trees number [] a e) (ap (λ o. not (is_some o)) k)))
@@ -136,7 +136,7 @@ from_points m trees b parts number (f ∷ forms) e n h =
     (from_points m trees b parts (number + 1) forms e n (next_of parts number f forms h))
 
 -- a fault of two: where the test fails, or another
-tested : (m : Source) (trees : List Form) (b : Bool) (x : Option FormFault) (z : FormFault) → Points m trees x → (b ≡ false → at_path m z trees (place z)) → Points m trees (if b then x else Some z)
+tested : (m : Source) (trees : List Form) (b : Bool) (x : Option CaseFormFault) (z : CaseFormFault) → Points m trees x → (b ≡ false → at_path m z trees (place z)) → Points m trees (if b then x else Some z)
 tested m trees true x z h k = h
 tested m trees false x z h k = found m trees z (k refl)
 
@@ -162,13 +162,13 @@ after_points m trees number [] h = nothing m trees
 after_points m trees number (f ∷ rest) h =
     found m trees (Misplaced number) (wrong m (Misplaced number) _ f (step trees number [] f (first_of trees number f rest h)) refl)
 
-lists_points : (m : Source) (trees : List Form) (parts : ListedParts) (lists : List Form) → Points m trees (lists_fault parts lists)
+lists_points : (m : Source) (trees : List Form) (parts : PartsWithReplyLists) (lists : List Form) → Points m trees (lists_fault parts lists)
 lists_points m trees parts lists =
     tested m trees (length lists == count parts) _ (ListCount (length lists) parts)
     (tested m trees (list_all (λ list. form.is_node (node_of list)) lists) None NoList (nothing m trees) (λ _. tt))
     (λ _. tt)
 
-replies_points : (m : Source) (trees : List Form) (parts : ListedParts) (number : ℕ) (f : Form) (rest : List Form) → From trees number (f ∷ rest) → Points m trees (in_replies parts number (form.section (codes "replies") f) rest)
+replies_points : (m : Source) (trees : List Form) (parts : PartsWithReplyLists) (number : ℕ) (f : Form) (rest : List Form) → From trees number (f ∷ rest) → Points m trees (in_replies parts number (form.section (codes "replies") f) rest)
 replies_points m trees parts number f rest h = elim (decided (form.section (codes "replies") f)) [
   | inl k ↦ subst (λ o. Points m trees (in_replies parts number o rest)) (sym k)
       (found m trees (OtherPart Replies number) (wrong m (OtherPart Replies number) _ f (step trees number [] f (first_of trees number f rest h)) (ap (λ o. not (is_some o)) k)))
@@ -176,7 +176,7 @@ replies_points m trees parts number f rest h = elim (decided (form.section (code
       (either m trees _ _ (after_points m trees (number + 1) rest (next_of trees number f rest h)) (lists_points m trees parts k.0))
 ]
 
-end_points : (m : Source) (trees : List Form) (r : Bool) (parts : ListedParts) (number : ℕ) (rest : List Form) → From trees number rest → Points m trees (end_fault r parts number rest)
+end_points : (m : Source) (trees : List Form) (r : Bool) (parts : PartsWithReplyLists) (number : ℕ) (rest : List Form) → From trees number rest → Points m trees (end_fault r parts number rest)
 end_points m trees false parts number rest h = after_points m trees number rest h
 end_points m trees true parts number [] h = found m trees (Missing Replies) tt
 end_points m trees true parts number (f ∷ rest) h = replies_points m trees parts number f rest h
@@ -217,7 +217,7 @@ parts_points m trees r (f ∷ rest) h =
     (prefix_points m trees r rest (next_of trees 1 f rest h))
 
 -- a fault of the item as a whole, where the reader refuses the item
-whole : (m : Source) (f : Form) (fault : FormFault) → not (is_some (form.parts_of m f)) ≡ true → place fault ≡ [] → not (is_wanted m fault f) ≡ true
+whole : (m : Source) (f : Form) (fault : CaseFormFault) → not (is_some (form.parts_of m f)) ≡ true → place fault ≡ [] → not (is_wanted m fault f) ≡ true
 whole m f OtherHead h e = h
 whole m f (Missing wanted) h e = h
 whole m f (OtherPart wanted number) h e = absurd (cc)
@@ -229,20 +229,20 @@ whole m f (Misplaced number) h e = absurd (cc)
 whole m f (ListCount lists parts) h e = h
 whole m f NoList h e = h
 
-pointed : (m : Source) (f : Form) (trees : List Form) (fault : FormFault) (path : List ℕ) → place fault ≡ path → not (is_some (form.parts_of m f)) ≡ true → node_of f ≡ Some trees → at_path m fault trees path → is_refused m fault (tree_in path f) ≡ true
+pointed : (m : Source) (f : Form) (trees : List Form) (fault : CaseFormFault) (path : List ℕ) → place fault ≡ path → not (is_some (form.parts_of m f)) ≡ true → node_of f ≡ Some trees → at_path m fault trees path → is_refused m fault (tree_in path f) ≡ true
 pointed m f trees fault [] e h n k = whole m f fault h e
 pointed m f trees fault (number ∷ path) e h n k = ap (is_refused m fault) (into f trees number path n) ∙ k
 
-not_read : (m : Source) (f : Form) (fault : FormFault) → form_fault f ≡ Some fault → not (is_some (form.parts_of m f)) ≡ true
+not_read : (m : Source) (f : Form) (fault : CaseFormFault) → form_fault f ≡ Some fault → not (is_some (form.parts_of m f)) ≡ true
 not_read m f fault e = ap not (sym (form_agrees m f).same ∙ ap is_none e)
 
-headed : (m : Source) (r : Bool) (f : Form) (name : List ℕ) (parts : List Form) (fault : FormFault) → form.section name f ≡ Some parts → parts_fault r parts ≡ Some fault → not (is_some (form.parts_of m f)) ≡ true → is_refused m fault (tree_in (place fault) f) ≡ true
+headed : (m : Source) (r : Bool) (f : Form) (name : List ℕ) (parts : List Form) (fault : CaseFormFault) → form.section name f ≡ Some parts → parts_fault r parts ≡ Some fault → not (is_some (form.parts_of m f)) ≡ true → is_refused m fault (tree_in (place fault) f) ≡ true
 headed m r f name parts fault k e h =
     let node = section_node name (node_of f) parts k in
     let found = parts_points m (node.0 ∷ parts) r parts (behind_head node.0 parts) in
     pointed m f (node.0 ∷ parts) fault (place fault) refl h node.1 (found.points fault e)
 
-pub fault_refused : (m : Source) (f : Form) (fault : FormFault) → form_fault f ≡ Some fault → refused m fault f ≡ true
+pub fault_refused : (m : Source) (f : Form) (fault : CaseFormFault) → form_fault f ≡ Some fault → refused m fault f ≡ true
 unfolding form_fault refused
 fault_refused m f fault e =
     let h = not_read m f fault e in

@@ -2,9 +2,9 @@
 use Rattle.std.specs.Prelude.{◌==◌, ◌&&◌, ◌||◌, ◌-◌, ℕ, zero, suc, nat_lt, Bool, true, false, not, if◌then◌else◌, List, [], ◌∷◌, length, map, slice_get, Option, Some, None, codes}
 use Rattle.std.specs.Option.{is_some, is_none}
 use Rattle.std.specs.Str.{bytes_eq}
-use Rattle.pst_run_problems.specs.declared.value_fault.Found.{Found}
-use Rattle.pst_run_problems.specs.declared.value_fault.Types.{Types}
-use Rattle.pst_run_problems.specs.declared.value_fault.Types.TheVariants as types
+use Rattle.pst_run_problems.specs.declared.value_fault.FoundValueFault.{FoundValueFault}
+use Rattle.pst_run_problems.specs.declared.value_fault.WantedTypes.{WantedTypes}
+use Rattle.pst_run_problems.specs.declared.value_fault.WantedTypes.TheVariants as types
 use Rattle.pst_run_problems.specs.declared.value_fault.Wanted.{Wanted}
 use Rattle.pst_run_problems.specs.declared.value_fault.Wanted.TheVariants as wanted
 use Rattle.pst_model.specs.Parts.{types_of}
@@ -90,7 +90,7 @@ pub data Parts : Type 0 where
   AreEntries : Option KeyTy → Option Ty → Parts
 
 -- what the code says of them
-abbrev pub parts_in : Types → Parts
+abbrev pub parts_in : WantedTypes → Parts
 parts_in (types.Same w) = AreValues (type_of w)
 parts_in (types.Items tys) = AreItems tys.now
 parts_in (types.Params params) = AreItems (types_of params.now)
@@ -187,15 +187,15 @@ leads_in m results parts trees [] = false
 leads_in m results parts trees (number ∷ path) = for_part (tree_of parts trees number) (leads m results path)
 
 -- no fault is found, or its path leads to a tree that is refused
-abbrev pub is_led : Source → List Ty → Role → Form → Option Found → Bool
+abbrev pub is_led : Source → List Ty → Role → Form → Option FoundValueFault → Bool
 is_led m results role form None = true
 is_led m results role form (Some found) = leads m results found.path role form
 
 -- a reply is a value of any type
-abbrev pub is_reply_led : Source → Form → Option Found → Bool
+abbrev pub is_reply_led : Source → Form → Option FoundValueFault → Bool
 is_reply_led m form found = is_led m [] (IsValue None) form found
 
-abbrev pub is_led_in : Source → List Ty → Parts → List Form → Option Found → Bool
+abbrev pub is_led_in : Source → List Ty → Parts → List Form → Option FoundValueFault → Bool
 is_led_in m results parts trees None = true
 is_led_in m results parts trees (Some found) = leads_in m results parts trees found.path
 
@@ -220,6 +220,6 @@ abbrev pub call_leads : Source → List Ty → List Ty → List Form → List �
 call_leads m results tys trees [] = not (are_accepted m results (after_head trees) tys)
 call_leads m results tys trees (number ∷ path) = leads_in m results (AreItems tys) trees (number ∷ path)
 
-abbrev pub is_call_led : Source → List Ty → List Ty → List Form → Option Found → Bool
+abbrev pub is_call_led : Source → List Ty → List Ty → List Form → Option FoundValueFault → Bool
 is_call_led m results tys trees None = true
 is_call_led m results tys trees (Some found) = call_leads m results tys trees found.path

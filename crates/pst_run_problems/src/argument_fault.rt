@@ -10,8 +10,8 @@ use crate::command::CaseSearch;
 use crate::ill::ValueFault;
 use crate::results::result_types_of_commands;
 use crate::value_fault::{
-    Found, Types, ValueSearch, Wanted, first_value_fault_among_trees, is_accepted_value,
-    trees_after_head,
+    FoundValueFault, ValueSearch, Wanted, WantedTypes, first_value_fault_after_head,
+    is_accepted_value, trees_after_head,
 };
 use pst_model::Param;
 use pst_sexpr::Form;
@@ -49,7 +49,7 @@ pub fn first_argument_fault<'a>(
     search: &CaseSearch<'_>,
     trees: &'a [Form],
     params: &'a [Param],
-) -> Result<Option<Found<'a>>, AllocError>
+) -> Result<Option<FoundValueFault<'a>>, AllocError>
     ensures none { IfOk result (λ found. is_none found ≡ spec.are_accepted search.now.source.now
         (result_types search.now.source.now search.now.parts.now) (spec.after_head trees.now)
         (types_of params.now)) }
@@ -66,15 +66,15 @@ pub fn first_argument_fault<'a>(
     if are_accepted_arguments(alloc, &search, trees_after_head(trees), params)? {
         return Ok(None);
     }
-    if let Some(found) = first_value_fault_among_trees(
+    if let Some(found) = first_value_fault_after_head(
         alloc,
         &search,
         trees,
-        Types::Params(params),
+        WantedTypes::Params(params),
     )? {
         return Ok(Some(found));
     }
     let path = Items::new(alloc);
     let fault = ValueFault::Unnamed;
-    Ok(Some(Found { path, fault }))
+    Ok(Some(FoundValueFault { path, fault }))
 }

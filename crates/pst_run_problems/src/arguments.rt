@@ -13,7 +13,12 @@ use pst_syntax_problems::{
 use std::alloc::Global;
 
 /// The problem of a command with `found` arguments of `op`, which takes another number.
-fn argument_count_problem(alloc: Global, path: &[usize], op: &Op, found: usize) -> FoundProblem {
+fn problem_of_wrong_command_argument_count(
+    alloc: Global,
+    path: &[usize],
+    op: &Op,
+    found: usize,
+) -> FoundProblem {
     let name = op.name.as_str();
     let takes = counted_noun(op.params.len(), "argument");
     problem_at(
@@ -24,7 +29,7 @@ fn argument_count_problem(alloc: Global, path: &[usize], op: &Op, found: usize) 
 }
 
 /// The problem of the arguments of a command of `op`.
-fn command_arguments_problem(
+fn refused_command_arguments_problem(
     alloc: Global,
     search: &CaseSearch<'_>,
     path: &[usize],
@@ -33,7 +38,7 @@ fn command_arguments_problem(
 ) -> FoundProblem {
     let found = node_parts_after_head(form).len();
     if found != op.params.len() {
-        return argument_count_problem(alloc, path, op, found);
+        return problem_of_wrong_command_argument_count(alloc, path, op, found);
     }
     let found = first_argument_fault(
         alloc,
@@ -45,7 +50,7 @@ fn command_arguments_problem(
 }
 
 /// The problem `found`, if there is one, with the declaration of `op`.
-fn add_operation_declaration_note(alloc: Global, found: Option<Problem>, op: &Op) -> FoundProblem {
+fn with_operation_declaration_note(alloc: Global, found: Option<Problem>, op: &Op) -> FoundProblem {
     let declared = SignatureText {
         name: op.name.as_str(),
         params: op.params.as_slice(),
@@ -55,16 +60,16 @@ fn add_operation_declaration_note(alloc: Global, found: Option<Problem>, op: &Op
 }
 
 /// The problem of a command whose arguments spell other values than its operation takes.
-pub fn bad_argument_problem(
+pub fn bad_arguments_problem_with_declaration(
     alloc: Global,
     search: &CaseSearch<'_>,
     path: &[usize],
     form: &Form,
 ) -> FoundProblem {
     match find_operation(search.source.items.as_slice(), head_word_or_empty(form)) {
-        Some(op) => add_operation_declaration_note(
+        Some(op) => with_operation_declaration_note(
             alloc,
-            command_arguments_problem(alloc, search, path, form, op)?,
+            refused_command_arguments_problem(alloc, search, path, form, op)?,
             op,
         ),
         None => Ok(None),

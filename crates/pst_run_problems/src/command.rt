@@ -169,7 +169,10 @@ fn push_case_parts_of_tree<'a>(
 }
 
 /// The parts of a case, in the order of the numbers of their commands.
-pub fn parts_of_case<'a>(alloc: Global, form: &'a Form) -> Result<Vec<Part<'a>>, AllocError> {
+pub fn parts_of_case_or_run<'a>(
+    alloc: Global,
+    form: &'a Form,
+) -> Result<Vec<Part<'a>>, AllocError> {
     let mut parts = Vec::new(alloc);
     for (place, tree) in node_parts_or_empty(form).iter().enumerate() {
         push_case_parts_of_tree(&mut parts, tree, place)?;
@@ -178,7 +181,10 @@ pub fn parts_of_case<'a>(alloc: Global, form: &'a Form) -> Result<Vec<Part<'a>>,
 }
 
 /// The part of command `command`, counted from 1, and the number of the command in it. Both results count from 0.
-pub fn find_part_of_command(parts: &[Part<'_>], command: usize) -> Option<(usize, usize)> {
+pub fn find_part_and_offset_of_command(
+    parts: &[Part<'_>],
+    command: usize,
+) -> Option<(usize, usize)> {
     let mut left = command.saturating_sub(1);
     for (number, part) in parts.iter().enumerate() {
         let length = part.commands.len();
@@ -216,7 +222,7 @@ fn path_to_command(alloc: Global, command: &Command<'_>) -> Result<Vec<usize>, A
 }
 
 /// Command `command`, counted from 1, with the path to it within its item.
-pub fn command_with_path<'a>(
+pub fn find_command_with_path<'a>(
     alloc: Global,
     parts: &[Part<'a>],
     command: usize,

@@ -6,7 +6,7 @@ ghost use Rattle.pst_model.specs.declared.model.Source.{Source};
 ghost use Rattle.pst_value.specs.declared.ty.Ty.{Ty};
 
 use crate::ill::ValueFault;
-use crate::value_fault::Found;
+use crate::value_fault::FoundValueFault;
 use pst_runs::{map_entry_key_and_value, read_map_key};
 use pst_sexpr::Form;
 use pst_value::{Items, Key, KeyTy};
@@ -80,7 +80,7 @@ fn map_key_before(alloc: Global, trees: &[Form], number: usize) -> Result<Option
 }
 
 /// The fault of `key`, which is not greater than the key of the entry `before`, or spells no key.
-fn map_key_order_fault<'a>(key: &'a Form, before: Option<&'a Form>) -> ValueFault<'a> {
+fn map_key_order_or_unnamed_fault<'a>(key: &'a Form, before: Option<&'a Form>) -> ValueFault<'a> {
     match before {
         Some(entry) => match map_entry_key_and_value(entry) {
             Some((before, _)) => ValueFault::Falls(key, before),
@@ -91,7 +91,7 @@ fn map_key_order_fault<'a>(key: &'a Form, before: Option<&'a Form>) -> ValueFaul
 }
 
 /// The fault of the tree `key`, which spells the key `spelled` and may not come after the key `before`.
-fn map_key_fault<'a>(
+fn refused_map_key_fault<'a>(
     key: &'a Form,
     wanted: Option<KeyTy>,
     before: &Option<Key>,
@@ -111,7 +111,7 @@ fn map_key_fault<'a>(
     };
     match wanted {
         Some(wanted) if type_of_map_key(spelled) != wanted => ValueFault::OtherKey(key, wanted),
-        _ => map_key_order_fault(key, entry_before),
+        _ => map_key_order_or_unnamed_fault(key, entry_before),
     }
 }
 
@@ -130,7 +130,7 @@ fn map_entry_or_key_fault<'a>(
     trees: &'a [Form],
     wanted: Option<KeyTy>,
     number: usize,
-) -> Result<Option<Found<'a>>, AllocError>
+) -> Result<Option<FoundValueFault<'a>>, AllocError>
     requires { 0 < number }
     ensures { IfOk result (λ found. (m : Source) (results : List Ty) (ty : Option Ty) →
         spec.is_led_in m results (spec.AreEntries wanted ty) trees.now found ≡ true) }
@@ -141,7 +141,7 @@ fn map_entry_or_key_fault<'a>(
     let Some((key, _)) = map_entry_key_and_value(entry) else {
         let path = Items::from_slice(alloc, &[number])?;
         let fault = not_a_map_entry_fault(entry);
-        return Ok(Some(Found { path, fault }));
+        return Ok(Some(FoundValueFault { path, fault }));
     };
     let before = map_key_before(alloc, trees, number)?;
     let spelled = read_map_key(alloc, key)?;
@@ -149,14 +149,14 @@ fn map_entry_or_key_fault<'a>(
         return Ok(None);
     }
     let path = Items::from_slice(alloc, &[number, 0])?;
-    let fault = map_key_fault(
+    let fault = refused_map_key_fault(
         key,
         wanted,
         &before,
         &spelled,
         map_entry_before(trees, number),
     );
-    Ok(Some(Found { path, fault }))
+    Ok(Some(FoundValueFault { path, fault }))
 }
 
 /// The fault of the first wrong entry or key of a map with the trees `trees`. It does not check the values.
@@ -164,7 +164,7 @@ pub fn fault_of_first_bad_map_entry_or_key<'a>(
     alloc: Global,
     trees: &'a [Form],
     wanted: Option<KeyTy>,
-) -> Result<Option<Found<'a>>, AllocError>
+) -> Result<Option<FoundValueFault<'a>>, AllocError>
     ensures { IfOk result (λ found. (m : Source) (results : List Ty) (ty : Option Ty) →
         spec.is_led_in m results (spec.AreEntries wanted ty) trees.now found ≡ true) }
 {

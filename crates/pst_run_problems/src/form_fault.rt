@@ -8,7 +8,7 @@ use pst_sexpr::{Form, node_of, word_of};
 
 /// A part of an item that begins with a word.
 #[derive(Clone, Copy, Drop)]
-pub enum Section {
+pub enum RunSection {
     /// The commands before the branches.
     Prefix,
     /// The first branch of two.
@@ -21,31 +21,31 @@ pub enum Section {
     Replies,
 }
 
-impl Section {
+impl RunSection {
     /// The word that the part begins with.
-    pub fn word(self) -> &'static str
+    pub fn keyword(self) -> &'static str
         ensures { result.now ≡ spec.word self }
     {
         match self {
-            Section::Prefix => "prefix",
-            Section::Left => "left",
-            Section::Right => "right",
-            Section::Suffix => "suffix",
-            Section::Replies => "replies",
+            RunSection::Prefix => "prefix",
+            RunSection::Left => "left",
+            RunSection::Right => "right",
+            RunSection::Suffix => "suffix",
+            RunSection::Replies => "replies",
         }
     }
 }
 
 /// The parts of a run that have a list of replies each: the prefix, the branches, and the suffix if it is written.
 #[derive(Clone, Copy, Drop)]
-pub struct ListedParts {
+pub struct PartsWithReplyLists {
     /// The number of branches.
     pub branches: usize,
     /// Whether the suffix is written.
     pub has_suffix: bool,
 }
 
-impl ListedParts {
+impl PartsWithReplyLists {
     /// The number of the parts.
     pub fn count(self) -> usize
         ensures { self.branches + 2 < 2 ^ 64 → result ≡ spec.count self }
@@ -57,13 +57,13 @@ impl ListedParts {
 
 /// What is wrong with the form of an item. Numbers of trees count from 0, which is the head of a tree that has one.
 #[derive(Clone, Copy, Drop)]
-pub enum FormFault {
+pub enum CaseFormFault {
     /// The item does not begin with `case` or `run`.
     OtherHead,
     /// This part is missing.
-    Missing(Section),
+    Missing(RunSection),
     /// The tree with the number has to be this part, and begins otherwise.
-    OtherPart(Section, usize),
+    OtherPart(RunSection, usize),
     /// In the tree with the number, the tree with this number is no call.
     NoCall(usize, usize),
     /// The number of the branches in a `(branches ..)` tree is not 2 to 4.
@@ -75,12 +75,12 @@ pub enum FormFault {
     /// The tree with the number is after the last part.
     Misplaced(usize),
     /// A run has this number of lists of replies, and these parts.
-    ListCount(usize, ListedParts),
+    ListCount(usize, PartsWithReplyLists),
     /// One of the lists of replies is no list.
     NoList,
 }
 
-/// The parts of `form` after the word `word`, if it is a node that begins with this word.
+/// The parts of `form` after the word `keyword`, if it is a node that begins with this word.
 pub fn parts_after_head_word<'a>(word: &str, form: &'a Form) -> Option<&'a [Form]>
     ensures { option_copied result ≡ section word.now form.now }
 {
@@ -110,36 +110,36 @@ fn find_first_non_call(forms: &[Form]) -> Option<usize>
 }
 
 /// The fault of the commands of the tree `place`, if they have one.
-fn calls_fault(place: usize, commands: &[Form]) -> Option<FormFault>
+fn first_non_call_fault(place: usize, commands: &[Form]) -> Option<CaseFormFault>
     ensures { result ≡ spec.calls_fault place commands.now }
 {
     let offset = find_first_non_call(commands)?;
-    Some(FormFault::NoCall(place, offset + 1))
+    Some(CaseFormFault::NoCall(place, offset + 1))
 }
 
 /// The fault of the tree `place`, which has to be the part `wanted`.
-fn case_section_fault(wanted: Section, place: usize, form: &Form) -> Option<FormFault>
+fn case_section_fault(wanted: RunSection, place: usize, form: &Form) -> Option<CaseFormFault>
     ensures { result ≡ spec.section_fault wanted place form.now }
 {
-    match parts_after_head_word(wanted.word(), form) {
-        Some(commands) => calls_fault(place, commands),
-        None => Some(FormFault::OtherPart(wanted, place)),
+    match parts_after_head_word(wanted.keyword(), form) {
+        Some(commands) => first_non_call_fault(place, commands),
+        None => Some(CaseFormFault::OtherPart(wanted, place)),
     }
 }
 
 /// The fault of branch `number` of a `(branches ..)` tree.
-fn branch_fault(number: usize, form: &Form) -> Option<FormFault>
+fn branch_fault(number: usize, form: &Form) -> Option<CaseFormFault>
     ensures { result ≡ spec.branch_fault number form.now }
 {
     let Some(commands) = node_of(form) else {
-        return Some(FormFault::NoBranch(number));
+        return Some(CaseFormFault::NoBranch(number));
     };
     let offset = find_first_non_call(commands)?;
-    Some(FormFault::NoBranchCall(number, offset))
+    Some(CaseFormFault::NoBranchCall(number, offset))
 }
 
 /// The first fault of branches, which are numbered from `number` on.
-fn first_branch_fault_from(number: usize, forms: &[Form]) -> Option<FormFault>
+fn first_branch_fault_from(number: usize, forms: &[Form]) -> Option<CaseFormFault>
     requires { number + length forms.now < 2 ^ 32 }
     ensures { result ≡ spec.branches_from number forms.now }
 {
@@ -155,24 +155,24 @@ fn is_allowed_branch_count(branches: &[Form]) -> bool
 }
 
 /// The fault of the branches of a `(branches ..)` tree.
-fn branches_fault(branches: &[Form]) -> Option<FormFault>
+fn branches_form_fault(branches: &[Form]) -> Option<CaseFormFault>
     ensures { result ≡ spec.branches_fault branches.now }
 {
     if is_allowed_branch_count(branches) {
         first_branch_fault_from(1, branches)
     } else {
-        Some(FormFault::BranchCount(branches.len()))
+        Some(CaseFormFault::BranchCount(branches.len()))
     }
 }
 
 /// The fault of the first tree, whose number is `place`, after the last part.
-fn extra_tree_fault(place: usize, forms: &[Form]) -> Option<FormFault>
+fn extra_tree_fault(place: usize, forms: &[Form]) -> Option<CaseFormFault>
     ensures { result ≡ spec.after_all place forms.now }
 {
     if forms.is_empty() {
         None
     } else {
-        Some(FormFault::Misplaced(place))
+        Some(CaseFormFault::Misplaced(place))
     }
 }
 
@@ -191,44 +191,44 @@ fn are_node_forms(forms: &[Form]) -> bool
 }
 
 /// The fault of the lists of replies of a run with these parts.
-fn reply_lists_fault(parts: ListedParts, lists: &[Form]) -> Option<FormFault>
+fn reply_lists_fault(parts: PartsWithReplyLists, lists: &[Form]) -> Option<CaseFormFault>
     requires { parts.branches + 2 < 2 ^ 64 }
     ensures { result ≡ spec.lists_fault parts lists.now }
 {
     if lists.len() != parts.count() {
-        return Some(FormFault::ListCount(lists.len(), parts));
+        return Some(CaseFormFault::ListCount(lists.len(), parts));
     }
     if are_node_forms(lists) {
         None
     } else {
-        Some(FormFault::NoList)
+        Some(CaseFormFault::NoList)
     }
 }
 
 /// The fault of the tree `place`, which has to be the replies of a run, or of the trees after it.
-fn fault_from_replies_on(
-    parts: ListedParts,
+fn replies_or_later_tree_fault(
+    parts: PartsWithReplyLists,
     place: usize,
     form: &Form,
     more: &[Form],
-) -> Option<FormFault>
+) -> Option<CaseFormFault>
     requires room { parts.branches + 2 < 2 ^ 64 }
     requires small { place < 2 ^ 32 }
     ensures { result ≡ spec.replies_fault parts place form.now more.now }
 {
-    match parts_after_head_word(Section::Replies.word(), form) {
+    match parts_after_head_word(RunSection::Replies.keyword(), form) {
         Some(lists) => extra_tree_fault(place + 1, more).or(reply_lists_fault(parts, lists)),
-        None => Some(FormFault::OtherPart(Section::Replies, place)),
+        None => Some(CaseFormFault::OtherPart(RunSection::Replies, place)),
     }
 }
 
 /// The fault of the trees after the suffix. The first of them is tree `place`.
 fn fault_after_suffix(
     is_run: bool,
-    parts: ListedParts,
+    parts: PartsWithReplyLists,
     place: usize,
     forms: &[Form],
-) -> Option<FormFault>
+) -> Option<CaseFormFault>
     requires room { parts.branches + 2 < 2 ^ 64 }
     requires small { place < 2 ^ 32 }
     ensures { result ≡ spec.end_fault is_run parts place forms.now }
@@ -237,8 +237,8 @@ fn fault_after_suffix(
         return extra_tree_fault(place, forms);
     }
     match forms.split_first() {
-        Some((form, more)) => fault_from_replies_on(parts, place, form, more),
-        None => Some(FormFault::Missing(Section::Replies)),
+        Some((form, more)) => replies_or_later_tree_fault(parts, place, form, more),
+        None => Some(CaseFormFault::Missing(RunSection::Replies)),
     }
 }
 
@@ -248,18 +248,18 @@ fn fault_after_branches(
     branches: usize,
     place: usize,
     forms: &[Form],
-) -> Option<FormFault>
+) -> Option<CaseFormFault>
     requires room { branches + 2 < 2 ^ 64 }
     requires small { place < 2 ^ 31 }
     ensures { result ≡ spec.rest_fault is_run branches place forms.now }
 {
     if let Some((form, more)) = forms.split_first() {
-        if let Some(commands) = parts_after_head_word(Section::Suffix.word(), form) {
-            let parts = ListedParts {
+        if let Some(commands) = parts_after_head_word(RunSection::Suffix.keyword(), form) {
+            let parts = PartsWithReplyLists {
                 branches,
                 has_suffix: true,
             };
-            return calls_fault(place, commands).or(fault_after_suffix(
+            return first_non_call_fault(place, commands).or(fault_after_suffix(
                 is_run,
                 parts,
                 place + 1,
@@ -267,7 +267,7 @@ fn fault_after_branches(
             ));
         }
     }
-    let parts = ListedParts {
+    let parts = PartsWithReplyLists {
         branches,
         has_suffix: false,
     };
@@ -275,54 +275,56 @@ fn fault_after_branches(
 }
 
 /// The fault of the trees after `(left ..)`.
-fn fault_after_left(is_run: bool, forms: &[Form]) -> Option<FormFault>
+fn fault_after_left(is_run: bool, forms: &[Form]) -> Option<CaseFormFault>
     ensures { result ≡ spec.right_fault is_run forms.now }
 {
     match forms.split_first() {
         Some((form, more)) => {
-            case_section_fault(Section::Right, 3, form).or(fault_after_branches(is_run, 2, 4, more))
+            case_section_fault(RunSection::Right, 3, form).or(fault_after_branches(
+                is_run, 2, 4, more,
+            ))
         }
-        None => Some(FormFault::Missing(Section::Right)),
+        None => Some(CaseFormFault::Missing(RunSection::Right)),
     }
 }
 
 /// The fault of the trees after the prefix.
-fn fault_after_prefix(is_run: bool, forms: &[Form]) -> Option<FormFault>
+fn fault_after_prefix(is_run: bool, forms: &[Form]) -> Option<CaseFormFault>
     ensures { result ≡ spec.after_prefix is_run forms.now }
 {
     let Some((form, more)) = forms.split_first() else {
-        return Some(FormFault::Missing(Section::Left));
+        return Some(CaseFormFault::Missing(RunSection::Left));
     };
     match parts_after_head_word("branches", form) {
         Some(branches) => {
-            branches_fault(branches).or(fault_after_branches(is_run, branches.len(), 3, more))
+            branches_form_fault(branches).or(fault_after_branches(is_run, branches.len(), 3, more))
         }
-        None => case_section_fault(Section::Left, 2, form).or(fault_after_left(is_run, more)),
+        None => case_section_fault(RunSection::Left, 2, form).or(fault_after_left(is_run, more)),
     }
 }
 
 /// The fault of the trees after the head of an item.
-fn item_parts_fault(is_run: bool, forms: &[Form]) -> Option<FormFault>
+fn case_or_run_parts_fault(is_run: bool, forms: &[Form]) -> Option<CaseFormFault>
     ensures { result ≡ spec.parts_fault is_run forms.now }
 {
     match forms.split_first() {
         Some((form, more)) => {
-            case_section_fault(Section::Prefix, 1, form).or(fault_after_prefix(is_run, more))
+            case_section_fault(RunSection::Prefix, 1, form).or(fault_after_prefix(is_run, more))
         }
-        None => Some(FormFault::Missing(Section::Prefix)),
+        None => Some(CaseFormFault::Missing(RunSection::Prefix)),
     }
 }
 
 /// The first fault in the form of an item. `None` if the tree has the form of a case or a run.
 #[tactic(auto, unfolding(crate::specs::ItemForm::form_fault))]
-pub fn first_item_form_fault(form: &Form) -> Option<FormFault>
+pub fn first_case_or_run_form_fault(form: &Form) -> Option<CaseFormFault>
     ensures { result ≡ spec.form_fault form.now }
 {
     if let Some(parts) = parts_after_head_word("case", form) {
-        return item_parts_fault(false, parts);
+        return case_or_run_parts_fault(false, parts);
     }
     match parts_after_head_word("run", form) {
-        Some(parts) => item_parts_fault(true, parts),
-        None => Some(FormFault::OtherHead),
+        Some(parts) => case_or_run_parts_fault(true, parts),
+        None => Some(CaseFormFault::OtherHead),
     }
 }

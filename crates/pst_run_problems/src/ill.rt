@@ -37,7 +37,7 @@ pub enum ValueFault<'a> {
 }
 
 /// The problem of `key`, which is not greater than `before`, the key before it.
-fn key_order_problem(alloc: Global, path: &[usize], key: &Form, before: &Form) -> FoundProblem {
+fn map_key_order_problem(alloc: Global, path: &[usize], key: &Form, before: &Form) -> FoundProblem {
     let key = shortened_tree_text(alloc, key)?;
     problem_showing_tree(
         alloc,
@@ -49,7 +49,7 @@ fn key_order_problem(alloc: Global, path: &[usize], key: &Form, before: &Form) -
 }
 
 /// The problem of a variable in command `command` that names command `number`, which is not earlier.
-fn later_variable_problem(
+fn later_command_variable_problem(
     alloc: Global,
     path: &[usize],
     number: usize,
@@ -75,16 +75,16 @@ fn other_branch_variable_problem(alloc: Global, path: &[usize], number: usize) -
     )
 }
 
-/// The problem of the fault `ill`, if there is one, at the tree that `path` leads to.
+/// The problem of the fault `fault`, if there is one, at the tree that `path` leads to.
 pub fn value_fault_problem(
     alloc: Global,
     path: &[usize],
-    ill: Option<ValueFault<'_>>,
+    fault: Option<ValueFault<'_>>,
 ) -> FoundProblem {
-    let Some(ill) = ill else {
+    let Some(fault) = fault else {
         return Ok(None);
     };
-    match ill {
+    match fault {
         ValueFault::Tree {
             before,
             form,
@@ -100,8 +100,8 @@ pub fn value_fault_problem(
             let before = format_args!("expected a key of type {wanted}, found ");
             problem_showing_tree(alloc, path, before, form, "")
         }
-        ValueFault::Falls(key, before) => key_order_problem(alloc, path, key, before),
-        ValueFault::Later { number, command } => later_variable_problem(
+        ValueFault::Falls(key, before) => map_key_order_problem(alloc, path, key, before),
+        ValueFault::Later { number, command } => later_command_variable_problem(
             alloc, path, number, command,
         ),
         ValueFault::OtherBranch(number) => other_branch_variable_problem(alloc, path, number),

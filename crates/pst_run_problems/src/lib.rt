@@ -26,7 +26,8 @@ mod values;
 mod variables;
 
 pub use command::{
-    Part, command_with_path, find_part_of_command, node_parts_or_empty, parts_of_case,
+    Part, find_command_with_path, find_part_and_offset_of_command, node_parts_or_empty,
+    parts_of_case_or_run,
 };
-pub use runs::run_problem;
+pub use runs::refused_case_or_run_problem;
 pub use shape::JSON_ITEM;

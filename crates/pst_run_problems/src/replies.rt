@@ -4,7 +4,7 @@ ghost use Rattle.pst_run_problems.specs.ItemReplies as spec;
 ghost use Rattle.pst_runs.specs.Replies.{listed_at};
 
 use crate::command::{
-    CaseSearch, Part, find_part_of_command, node_parts_after_head, node_parts_or_empty,
+    CaseSearch, Part, find_part_and_offset_of_command, node_parts_after_head, node_parts_or_empty,
 };
 use crate::ill::{ValueFault, value_fault_problem};
 use crate::reply_fault::first_reply_fault;
@@ -25,7 +25,7 @@ struct LocatedReply<'a> {
 }
 
 /// The number of the `(replies ..)` tree among the trees of a run, and its lists.
-fn find_reply_lists(form: &Form) -> Option<(usize, &[Form])> {
+fn find_reply_lists_with_place(form: &Form) -> Option<(usize, &[Form])> {
     for (place, part) in node_parts_or_empty(form).iter().enumerate() {
         if has_head(part, "replies") {
             return Some((place, node_parts_after_head(part)));
@@ -35,7 +35,7 @@ fn find_reply_lists(form: &Form) -> Option<(usize, &[Form])> {
 }
 
 /// The replies of list `number`, counted from 0.
-fn replies_in_list(lists: &[Form], number: usize) -> &[Form]
+fn replies_in_list_or_empty(lists: &[Form], number: usize) -> &[Form]
     ensures { result.now ≡ listed_at lists.now number }
 {
     match lists.get(number) {
@@ -45,7 +45,7 @@ fn replies_in_list(lists: &[Form], number: usize) -> &[Form]
 }
 
 /// The problem of a part with `replies` replies, which has another number of commands.
-fn reply_count_problem(
+fn problem_of_wrong_reply_count(
     alloc: Global,
     path: &[usize],
     part: &Part<'_>,
@@ -64,7 +64,7 @@ fn reply_count_problem(
 }
 
 /// The problem of a run with `lists` lists of replies for `parts` parts, which differ in number.
-fn reply_list_count_problem(
+fn problem_of_reply_list_count_mismatch(
     alloc: Global,
     path: &[usize],
     lists: usize,
@@ -90,7 +90,7 @@ fn first_part_with_wrong_reply_count(
     ensures { result ≡ spec.first_other lists.now number parts.now }
 {
     let (part, others) = parts.split_first()?;
-    if replies_in_list(lists, number).len() == part.commands.len() {
+    if replies_in_list_or_empty(lists, number).len() == part.commands.len() {
         first_part_with_wrong_reply_count(lists, number + 1, others)
     } else {
         Some(number)
@@ -111,23 +111,28 @@ fn first_wrong_reply_count_problem(
     };
     let path = [item, place, number.saturating_add(1)];
     match parts.get(number) {
-        Some(part) => reply_count_problem(alloc, &path, part, replies_in_list(lists, number).len()),
+        Some(part) => problem_of_wrong_reply_count(
+            alloc,
+            &path,
+            part,
+            replies_in_list_or_empty(lists, number).len(),
+        ),
         None => Ok(None),
     }
 }
 
 /// The problem of a run whose replies do not fit its parts and commands.
-pub fn misfitting_replies_problem(
+pub fn wrong_reply_or_list_count_problem(
     alloc: Global,
     item: usize,
     form: &Form,
     parts: &[Part<'_>],
 ) -> FoundProblem {
-    match find_reply_lists(form) {
+    match find_reply_lists_with_place(form) {
         Some((place, lists)) if lists.len() == parts.len() => {
             first_wrong_reply_count_problem(alloc, item, place, lists, parts)
         }
-        Some((place, lists)) => reply_list_count_problem(
+        Some((place, lists)) => problem_of_reply_list_count_mismatch(
             alloc,
             &[item, place],
             lists.len(),
@@ -143,13 +148,13 @@ fn find_reply_to_command<'a>(
     parts: &[Part<'_>],
     command: usize,
 ) -> Option<LocatedReply<'a>> {
-    let Some((number, offset)) = find_part_of_command(parts, command) else {
+    let Some((number, offset)) = find_part_and_offset_of_command(parts, command) else {
         return None;
     };
-    let Some((place, lists)) = find_reply_lists(form) else {
+    let Some((place, lists)) = find_reply_lists_with_place(form) else {
         return None;
     };
-    match replies_in_list(lists, number).get(offset) {
+    match replies_in_list_or_empty(lists, number).get(offset) {
         Some(form) => Some(LocatedReply {
             place,
             list: number.saturating_add(1),
@@ -196,7 +201,7 @@ fn with_reply_syntax_note(alloc: Global, found: Option<Problem>, has_maps: bool)
 }
 
 /// What to write in the place of `word` in a reply, if it is a word of models or of another language.
-fn hint_on_word_in_reply(word: &str) -> Option<&'static str> {
+fn hint_on_foreign_word_in_reply(word: &str) -> Option<&'static str> {
     match word {
         "int" | "bool" | "text" => {
             Some("hint: values have no types: `(list int 1)` of a model is `(list 1)`")
@@ -213,12 +218,16 @@ fn hint_on_word_in_reply(word: &str) -> Option<&'static str> {
 }
 
 /// The problem `found` in the item `form`, with a hint if it is at a word of models or of another language.
-fn with_hint_on_word_in_reply(alloc: Global, form: &Form, found: Option<Problem>) -> FoundProblem {
+fn with_hint_if_foreign_word_in_reply(
+    alloc: Global,
+    form: &Form,
+    found: Option<Problem>,
+) -> FoundProblem {
     let Some(problem) = found else {
         return Ok(None);
     };
     let hint = match tree_in(form, problem.path.as_slice().get(1..).unwrap_or(&[])) {
-        Some(Form::Word(word)) => hint_on_word_in_reply(word.as_str()),
+        Some(Form::Word(word)) => hint_on_foreign_word_in_reply(word.as_str()),
         _ => None,
     };
     match hint {
@@ -240,7 +249,7 @@ pub fn bad_reply_problem(
             let path = [item, reply.place, reply.list, reply.offset];
             let found = not_a_reply_problem(alloc, search, &path, reply.form)?;
             let found = with_reply_syntax_note(alloc, found, search.source.has_maps)?;
-            with_hint_on_word_in_reply(alloc, form, found)
+            with_hint_if_foreign_word_in_reply(alloc, form, found)
         }
         None => Ok(None),
     }

@@ -6,7 +6,7 @@ ghost use Rattle.pst_run_problems.specs.ValuePlaces as spec;
 ghost use Rattle.pst_runs.specs.Values.{value_of, in_replies};
 
 use crate::command::CaseSearch;
-use crate::value_fault::{Found, ValueSearch, Wanted, first_value_fault};
+use crate::value_fault::{FoundValueFault, ValueSearch, Wanted, first_value_fault};
 use pst_sexpr::Form;
 use std::alloc::{AllocError, Global};
 
@@ -16,7 +16,7 @@ pub fn first_reply_fault<'a>(
     alloc: Global,
     search: &CaseSearch<'_>,
     form: &'a Form,
-) -> Result<Option<Found<'a>>, AllocError>
+) -> Result<Option<FoundValueFault<'a>>, AllocError>
     ensures none { IfOk result (λ found.
         is_none found ≡ is_some (value_of (in_replies search.now.source.now) form.now)) }
     ensures place { IfOk result (λ found.

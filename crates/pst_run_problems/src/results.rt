@@ -6,38 +6,8 @@ ghost use Rattle.pst_run_problems.specs.ResultTypes as spec;
 use crate::command::{Part, node_parts_or_empty};
 use pst_model::{Op, Source, operation_number, operation_of};
 use pst_sexpr::{Form, word_of};
-use pst_value::{Boxed, Items, Ty};
+use pst_value::{Items, Ty};
 use std::alloc::{AllocError, Global};
-
-/// An equal type.
-#[cycle(copy_type)]
-fn copy_type(alloc: Global, ty: &Ty) -> Result<Ty, AllocError>
-    ensures { IfOk result (λ copy. copy ≡ ty.now) }
-{
-    match ty {
-        Ty::Int => Ok(Ty::Int),
-        Ty::Bool => Ok(Ty::Bool),
-        Ty::Text => Ok(Ty::Text),
-        Ty::Tuple(parts) => Ok(Ty::Tuple(copy_types(alloc, parts.as_slice())?)),
-        Ty::List(item) => Ok(Ty::List(Boxed::new(alloc, copy_type(alloc, item.get())?)?)),
-        Ty::Map(keys, value) => {
-            Ok(Ty::Map(*keys, Boxed::new(alloc, copy_type(alloc, value.get())?)?))
-        }
-        Ty::Ref(named) => Ok(Ty::Ref(Boxed::new(alloc, copy_type(alloc, named.get())?)?)),
-        Ty::Call => Ok(Ty::Call),
-    }
-}
-
-#[cycle(copy_type)]
-fn copy_types(alloc: Global, types: &[Ty]) -> Result<Items<Ty>, AllocError>
-    ensures { IfOk result (λ copies. copies ≡ types.now) }
-{
-    let mut copies = Items::new(alloc);
-    for ty in types {
-        copies.push(copy_type(alloc, ty)?)?;
-    }
-    Ok(copies)
-}
 
 /// The operation that a command calls.
 fn operation_of_command<'a>(source: &'a Source, form: &Form) -> Option<&'a Op>
@@ -58,7 +28,7 @@ fn command_result_type_or_call_type(
     ensures { IfOk result (λ ty. ty ≡ spec.result_type source.now form.now) }
 {
     match operation_of_command(source, form) {
-        Some(op) => copy_type(alloc, &op.result),
+        Some(op) => op.result.copy(alloc),
         None => Ok(Ty::Call),
     }
 }

@@ -1,10 +1,10 @@
 //! Refused cases and runs.
 
-use crate::arguments::bad_argument_problem;
-use crate::command::{CaseSearch, Command, Part, find_command, parts_of_case};
-use crate::replies::{bad_reply_problem, misfitting_replies_problem};
-use crate::shape::bad_form_problem;
-use crate::variables::{SoughtVariable, first_variable_problem};
+use crate::arguments::bad_arguments_problem_with_declaration;
+use crate::command::{CaseSearch, Command, Part, find_command, parts_of_case_or_run};
+use crate::replies::{bad_reply_problem, wrong_reply_or_list_count_problem};
+use crate::shape::case_or_run_form_problem_with_note;
+use crate::variables::{SoughtVariable, first_sought_variable_problem};
 use pst_case::CaseFaultKind;
 use pst_model::{Item, Source};
 use pst_runs::{RunFault, RunFaultKind};
@@ -16,7 +16,7 @@ use pst_syntax_problems::{
 use std::alloc::{AllocError, Global};
 
 /// The problem of the part at `path`, which has more than `most` commands.
-fn too_many_commands_problem(
+fn problem_of_too_many_commands_at(
     alloc: Global,
     path: &[usize],
     part: &Part<'_>,
@@ -32,20 +32,25 @@ fn too_many_commands_problem(
 }
 
 /// The problem of a part of item `item`, which has more than `most` commands.
-fn too_many_commands_in_part_problem(
+fn problem_of_too_many_commands_in_part(
     alloc: Global,
     item: usize,
     part: &Part<'_>,
     most: usize,
 ) -> FoundProblem {
     match part.branch {
-        Some(branch) => too_many_commands_problem(alloc, &[item, part.place, branch], part, most),
-        None => too_many_commands_problem(alloc, &[item, part.place], part, most),
+        Some(branch) => problem_of_too_many_commands_at(
+            alloc,
+            &[item, part.place, branch],
+            part,
+            most,
+        ),
+        None => problem_of_too_many_commands_at(alloc, &[item, part.place], part, most),
     }
 }
 
 /// The problem of an item in which a part, or all branches together, have too many commands.
-fn too_many_commands_in_item_problem(
+fn problem_of_too_many_commands_in_case(
     alloc: Global,
     item: usize,
     parts: &[Part<'_>],
@@ -55,7 +60,7 @@ fn too_many_commands_in_item_problem(
         let number = part.commands.len();
         let most = if part.is_prefix { 64 } else { 8 };
         if number > most {
-            return too_many_commands_in_part_problem(alloc, item, part, most);
+            return problem_of_too_many_commands_in_part(alloc, item, part, most);
         }
         if part.is_branch {
             together = together.saturating_add(number);
@@ -69,7 +74,7 @@ fn too_many_commands_in_item_problem(
 }
 
 /// The hint on a command that is written as a model writes it, with the word `call`. `None` if it is not.
-fn hint_on_call_word(
+fn hint_to_leave_out_call(
     alloc: Global,
     items: &[Item],
     form: &Form,
@@ -88,14 +93,14 @@ fn hint_on_call_word(
 }
 
 /// The problem of a command whose head, which `path` leads to, is no name of an operation.
-fn unknown_operation_problem(
+fn command_of_unknown_operation_problem(
     alloc: Global,
     items: &[Item],
     path: &[usize],
     form: &Form,
 ) -> FoundProblem {
     let name = head_word_or_empty(form);
-    match hint_on_call_word(alloc, items, form)? {
+    match hint_to_leave_out_call(alloc, items, form)? {
         Some(hint) => problem_with_note(
             alloc,
             path,
@@ -119,11 +124,13 @@ fn command_fault_problem(
         CaseFaultKind::UnknownOp => {
             let path = path_to_part(path, alloc, 0)?;
             let items = search.source.items.as_slice();
-            unknown_operation_problem(alloc, items, path.as_slice(), form)
+            command_of_unknown_operation_problem(alloc, items, path.as_slice(), form)
         }
-        CaseFaultKind::BadArgument => bad_argument_problem(alloc, search, path, form),
+        CaseFaultKind::BadArgument => bad_arguments_problem_with_declaration(
+            alloc, search, path, form,
+        ),
         CaseFaultKind::ForwardVar => {
-            first_variable_problem(
+            first_sought_variable_problem(
                 alloc,
                 search.parts,
                 SoughtVariable::Later(number),
@@ -131,7 +138,7 @@ fn command_fault_problem(
                 form,
             )
         }
-        _ => first_variable_problem(
+        _ => first_sought_variable_problem(
             alloc,
             search.parts,
             SoughtVariable::OtherBranch(number),
@@ -165,7 +172,7 @@ fn bad_command_problem(
 }
 
 /// The problem of an item with the fault `fault`, if it is found.
-fn run_fault_problem(
+fn problem_of_run_fault_if_located(
     alloc: Global,
     search: &CaseSearch<'_>,
     form: &Form,
@@ -174,10 +181,10 @@ fn run_fault_problem(
     let RunFault { run, command, kind } = fault;
     let command = command as usize;
     match kind {
-        RunFaultKind::BadForm => bad_form_problem(alloc, run, form),
-        RunFaultKind::NotAFit => misfitting_replies_problem(alloc, run, form, search.parts),
+        RunFaultKind::BadForm => case_or_run_form_problem_with_note(alloc, run, form),
+        RunFaultKind::NotAFit => wrong_reply_or_list_count_problem(alloc, run, form, search.parts),
         RunFaultKind::BadReply => bad_reply_problem(alloc, search, run, form, command),
-        RunFaultKind::Case(CaseFaultKind::OverLimit) => too_many_commands_in_item_problem(
+        RunFaultKind::Case(CaseFaultKind::OverLimit) => problem_of_too_many_commands_in_case(
             alloc,
             run,
             search.parts,
@@ -187,7 +194,7 @@ fn run_fault_problem(
 }
 
 /// The problem of an item about which only the fault is known.
-fn unlocated_run_fault_problem(alloc: Global, fault: RunFault) -> FoundProblem {
+fn problem_naming_run_fault_kind(alloc: Global, fault: RunFault) -> FoundProblem {
     let kind = fault.kind.name();
     problem_at(
         alloc,
@@ -197,19 +204,19 @@ fn unlocated_run_fault_problem(alloc: Global, fault: RunFault) -> FoundProblem {
 }
 
 /// The problem of a case or a run that is refused with `fault`.
-pub fn run_problem(
+pub fn refused_case_or_run_problem(
     alloc: Global,
     source: &Source,
     form: &Form,
     fault: RunFault,
 ) -> Result<Option<Problem>, AllocError> {
-    let parts = parts_of_case(alloc, form)?;
+    let parts = parts_of_case_or_run(alloc, form)?;
     let search = CaseSearch {
         source,
         parts: parts.as_slice(),
     };
-    match run_fault_problem(alloc, &search, form, fault)? {
+    match problem_of_run_fault_if_located(alloc, &search, form, fault)? {
         Some(found) => Ok(Some(found)),
-        None => unlocated_run_fault_problem(alloc, fault),
+        None => problem_naming_run_fault_kind(alloc, fault),
     }
 }

@@ -1,7 +1,7 @@
 //! The form of cases and runs.
 
 use crate::command::node_parts_or_empty;
-use crate::form_fault::{FormFault, ListedParts, first_item_form_fault};
+use crate::form_fault::{CaseFormFault, PartsWithReplyLists, first_case_or_run_form_fault};
 use crate::places::path_to_form_fault;
 use crate::shown::problem_showing_tree;
 use pst_sexpr::{Form, tree_in};
@@ -14,7 +14,7 @@ use std::fmt;
 
 /// How an item is written.
 #[derive(Clone, Copy, Drop)]
-struct ItemSyntax {
+struct CaseOrRunSyntax {
     /// It is a run and not a case.
     is_run: bool,
     /// Its branches are in one part.
@@ -23,13 +23,13 @@ struct ItemSyntax {
     has_suffix: bool,
 }
 
-impl ItemSyntax {
+impl CaseOrRunSyntax {
     /// How an item with the parts of `form` is written.
-    fn of(form: &Form, is_run: bool) -> ItemSyntax {
-        ItemSyntax {
+    fn with_parts_of_tree(form: &Form, is_run: bool) -> CaseOrRunSyntax {
+        CaseOrRunSyntax {
             is_run,
-            has_branches: has_case_part(form, "branches"),
-            has_suffix: has_case_part(form, "suffix"),
+            has_branches: has_part_with_head(form, "branches"),
+            has_suffix: has_part_with_head(form, "suffix"),
         }
     }
 
@@ -53,7 +53,7 @@ impl ItemSyntax {
     }
 }
 
-impl fmt::Display for ItemSyntax {
+impl fmt::Display for CaseOrRunSyntax {
     fn fmt<W: fmt::Write>(&self, f: &mut fmt::Formatter<W>) -> fmt::Result {
         let head = if self.is_run { "run" } else { "case" };
         let branches = self.branches_syntax();
@@ -70,15 +70,15 @@ impl fmt::Display for ItemSyntax {
     }
 }
 
-/// Whether one of the trees in `form` has the head `word`.
-fn has_case_part(form: &Form, word: &str) -> bool {
+/// Whether one of the trees in `form` has the head `keyword`.
+fn has_part_with_head(form: &Form, word: &str) -> bool {
     node_parts_or_empty(form)
         .iter()
         .any(|part| has_head(part, word))
 }
 
 /// The problem of the tree `tree` of the item `form`, which may not be where it is.
-fn misplaced_item_part_problem(
+fn misplaced_case_or_run_part_problem(
     alloc: Global,
     path: &[usize],
     form: &Form,
@@ -101,7 +101,7 @@ fn misplaced_item_part_problem(
     }
 }
 
-impl fmt::Display for ListedParts {
+impl fmt::Display for PartsWithReplyLists {
     fn fmt<W: fmt::Write>(&self, f: &mut fmt::Formatter<W>) -> fmt::Result {
         let branches = self.branches;
         let suffix = if self.has_suffix { ", suffix" } else { "" };
@@ -110,11 +110,11 @@ impl fmt::Display for ListedParts {
 }
 
 /// The problem of a run with `lists` lists of replies for the parts `parts`.
-fn wrong_reply_list_count_problem(
+fn problem_of_wrong_reply_list_count(
     alloc: Global,
     path: &[usize],
     lists: usize,
-    parts: ListedParts,
+    parts: PartsWithReplyLists,
 ) -> FoundProblem {
     let has = counted_noun(lists, "list");
     let count = parts.count();
@@ -133,17 +133,17 @@ fn wrong_reply_list_count_problem(
 }
 
 /// The problem of a tree that is not written as a call.
-fn not_a_call_problem(alloc: Global, path: &[usize], tree: &Form) -> FoundProblem {
+fn not_a_command_call_problem(alloc: Global, path: &[usize], tree: &Form) -> FoundProblem {
     let found = problem_showing_tree(alloc, path, "", tree, " is not a call")?;
     with_note(alloc, found, "a call is `(OPERATION VALUE ..)`")
 }
 
 /// The problem of the fault `fault` of item `item`, whose tree is `form`. `place` leads to its place in the item.
-fn item_form_fault_problem(
+fn case_or_run_form_fault_problem(
     alloc: Global,
     item: usize,
     form: &Form,
-    fault: FormFault,
+    fault: CaseFormFault,
     place: &[usize],
 ) -> FoundProblem {
     let mut path = Vec::from_slice(alloc, &[item])?;
@@ -151,46 +151,47 @@ fn item_form_fault_problem(
     let path = path.as_slice();
     let tree = tree_in(form, place).unwrap_or(form);
     match fault {
-        FormFault::OtherHead => unknown_item_head_problem(alloc, item, form),
-        FormFault::Missing(part) => {
-            let word = part.word();
+        CaseFormFault::OtherHead => neither_case_nor_run_problem(alloc, item, form),
+        CaseFormFault::Missing(part) => {
+            let word = part.keyword();
             problem_at(alloc, path, format_args!("`({word} ..)` is missing"))
         }
-        FormFault::OtherPart(part, _) => {
-            let word = part.word();
+        CaseFormFault::OtherPart(part, _) => {
+            let word = part.keyword();
             let before = format_args!("expected `({word} ..)` here, found ");
             problem_showing_tree(alloc, path, before, tree, "")
         }
-        FormFault::NoCall(_, _) | FormFault::NoBranchCall(_, _) => not_a_call_problem(
-            alloc, path, tree,
-        ),
-        FormFault::BranchCount(count) => problem_at(
+        CaseFormFault::NoCall(_, _) | CaseFormFault::NoBranchCall(_, _) =>
+            not_a_command_call_problem(alloc, path, tree),
+        CaseFormFault::BranchCount(count) => problem_at(
             alloc,
             path,
             format_args!("an item has 2 to 4 branches, this one has {count}"),
         ),
-        FormFault::NoBranch(_) => {
+        CaseFormFault::NoBranch(_) => {
             problem_at(alloc, path, "a branch is a list of calls: `(CALL ..)`")
         }
-        FormFault::Misplaced(_) => misplaced_item_part_problem(alloc, path, form, tree),
-        FormFault::ListCount(lists, parts) => wrong_reply_list_count_problem(
+        CaseFormFault::Misplaced(_) => misplaced_case_or_run_part_problem(alloc, path, form, tree),
+        CaseFormFault::ListCount(lists, parts) => problem_of_wrong_reply_list_count(
             alloc, path, lists, parts,
         ),
-        FormFault::NoList => { problem_at(alloc, path, "the replies are lists, one for each part") }
+        CaseFormFault::NoList => {
+            problem_at(alloc, path, "the replies are lists, one for each part")
+        }
     }
 }
 
 /// The head of items that is probably meant by `head`, as a hint.
-fn nearest_item_head_hint(
+fn nearest_case_or_run_head_hint(
     alloc: Global,
     head: &str,
 ) -> Result<Option<DidYouMean<'static>>, AllocError> {
-    let near = NearestNameSoFar::to(head).or(alloc, "case", head)?;
-    Ok(near.or(alloc, "run", head)?.hint())
+    let near = NearestNameSoFar::without_candidates(head).or_nearer_candidate(alloc, "case", head)?;
+    Ok(near.or_nearer_candidate(alloc, "run", head)?.hint())
 }
 
 /// The problem of a tree that is neither a case nor a run.
-fn unknown_item_head_problem(alloc: Global, item: usize, form: &Form) -> FoundProblem {
+fn neither_case_nor_run_problem(alloc: Global, item: usize, form: &Form) -> FoundProblem {
     let head = head_word_or_empty(form);
     if head.is_empty() {
         return problem_showing_tree(alloc, &[item], "", form, " is neither a case nor a run");
@@ -203,18 +204,18 @@ fn unknown_item_head_problem(alloc: Global, item: usize, form: &Form) -> FoundPr
         );
     }
     let what = format_args!("neither a case nor a run begins with `{head}`");
-    match nearest_item_head_hint(alloc, head)? {
+    match nearest_case_or_run_head_hint(alloc, head)? {
         Some(hint) => problem_with_note_at_part(alloc, &[item], 0, what, hint),
         None => problem_at_part(alloc, &[item], 0, what),
     }
 }
 
 /// The problem of the form of an item.
-fn item_form_problem(alloc: Global, item: usize, form: &Form) -> FoundProblem {
-    match first_item_form_fault(form) {
+fn case_or_run_form_problem(alloc: Global, item: usize, form: &Form) -> FoundProblem {
+    match first_case_or_run_form_fault(form) {
         Some(fault) => {
             let place = path_to_form_fault(alloc, fault)?;
-            item_form_fault_problem(alloc, item, form, fault, place.as_slice())
+            case_or_run_form_fault_problem(alloc, item, form, fault, place.as_slice())
         }
         None => Ok(None),
     }
@@ -233,18 +234,18 @@ fn is_word_beginning_with_json_bracket(form: &Form) -> bool {
 
 /// The problem of item `item`, which has another form than a case or a run. A note shows the form that is probably
 /// meant.
-pub fn bad_form_problem(alloc: Global, item: usize, form: &Form) -> FoundProblem {
-    let found = item_form_problem(alloc, item, form)?;
+pub fn case_or_run_form_problem_with_note(alloc: Global, item: usize, form: &Form) -> FoundProblem {
+    let found = case_or_run_form_problem(alloc, item, form)?;
     if is_word_beginning_with_json_bracket(form) {
         return with_note(alloc, found, JSON_ITEM);
     }
-    let is_run = match nearest_item_head_hint(alloc, head_word_or_empty(form))? {
+    let is_run = match nearest_case_or_run_head_hint(alloc, head_word_or_empty(form))? {
         Some(DidYouMean(head)) => head == "run",
         None => false,
     };
     with_note(
         alloc,
         found,
-        ItemSyntax::of(form, is_run || has_case_part(form, "replies")),
+        CaseOrRunSyntax::with_parts_of_tree(form, is_run || has_part_with_head(form, "replies")),
     )
 }

@@ -26,7 +26,7 @@ pub enum Wanted<'a> {
 
 /// What the trees in a value or a command have to spell, after its head.
 #[derive(Clone, Copy, Drop)]
-pub enum Types<'a> {
+pub enum WantedTypes<'a> {
     /// Each tree has to spell this.
     Same(Wanted<'a>),
     /// The items of a tuple.
@@ -47,7 +47,7 @@ pub struct ValueSearch<'a> {
 
 /// A fault in a value, and the numbers that lead to it from the tree of the value.
 #[derive(Drop)]
-pub struct Found<'a> {
+pub struct FoundValueFault<'a> {
     pub path: Items<usize>,
     pub fault: ValueFault<'a>,
 }
@@ -103,20 +103,20 @@ pub fn trees_after_head(trees: &[Form]) -> &[Form]
 }
 
 /// What the trees in a reply have to spell. `None` if the head is wrong.
-fn types_wanted_in_any_value<'a>(source: &Source, trees: &[Form]) -> Option<Types<'a>>
+fn types_wanted_in_any_value<'a>(source: &Source, trees: &[Form]) -> Option<WantedTypes<'a>>
     ensures { option_map spec.parts_in result ≡ spec.parts_of_any source.now trees.now }
 {
     if begins_with_head_word("tuple", trees) || begins_with_head_word("list", trees) {
-        Some(Types::Same(Wanted::Any))
+        Some(WantedTypes::Same(Wanted::Any))
     } else if source.has_maps && begins_with_head_word("map", trees) {
-        Some(Types::Entries(None, Wanted::Any))
+        Some(WantedTypes::Entries(None, Wanted::Any))
     } else {
         None
     }
 }
 
 /// What the trees in a value of the type `ty` have to spell. `None` if the head or their number is wrong.
-fn types_wanted_in_value_of_type<'a>(ty: &'a Ty, trees: &[Form]) -> Option<Types<'a>>
+fn types_wanted_in_value_of_type<'a>(ty: &'a Ty, trees: &[Form]) -> Option<WantedTypes<'a>>
     ensures { option_map spec.parts_in result ≡ spec.parts_of_type ty.now trees.now }
 {
     match ty {
@@ -124,21 +124,21 @@ fn types_wanted_in_value_of_type<'a>(ty: &'a Ty, trees: &[Form]) -> Option<Types
             if items.len() == trees_after_head(trees).len()
                 && begins_with_head_word("tuple", trees)
             {
-                Some(Types::Items(items.as_slice()))
+                Some(WantedTypes::Items(items.as_slice()))
             } else {
                 None
             }
         }
         Ty::List(item) => {
             if begins_with_head_word("list", trees) {
-                Some(Types::Same(Wanted::Type(item.get())))
+                Some(WantedTypes::Same(Wanted::Type(item.get())))
             } else {
                 None
             }
         }
         Ty::Map(kind, value) => {
             if begins_with_head_word("map", trees) {
-                Some(Types::Entries(Some(*kind), Wanted::Type(value.get())))
+                Some(WantedTypes::Entries(Some(*kind), Wanted::Type(value.get())))
             } else {
                 None
             }
@@ -152,7 +152,7 @@ fn types_wanted_in_value<'a>(
     source: &Source,
     trees: &[Form],
     wanted: Wanted<'a>,
-) -> Option<Types<'a>>
+) -> Option<WantedTypes<'a>>
     ensures { option_map spec.parts_in result ≡
         spec.parts_of source.now (spec.type_of wanted.entry) trees.now }
 {
@@ -163,7 +163,7 @@ fn types_wanted_in_value<'a>(
 }
 
 /// Whether `word` is a variable that names a command whose result has the type `wanted`.
-fn names_result_of_type(search: &ValueSearch<'_>, word: &str, wanted: &Ty) -> bool {
+fn is_variable_for_result_of_type(search: &ValueSearch<'_>, word: &str, wanted: &Ty) -> bool {
     let Some(command) = command_number_of_variable(word) else {
         return false;
     };
@@ -178,7 +178,7 @@ fn is_word_or_text_of_type(search: &ValueSearch<'_>, form: &Form, wanted: &Ty) -
     match (form, wanted) {
         (Form::Word(word), Ty::Int) => is_integer(word),
         (Form::Word(word), Ty::Bool) => is_bool_word(word.as_str()),
-        (Form::Word(word), Ty::Ref(named)) => names_result_of_type(
+        (Form::Word(word), Ty::Ref(named)) => is_variable_for_result_of_type(
             search,
             word.as_str(),
             named.get(),
@@ -226,12 +226,15 @@ fn value_fault_of_refused_tree<'a>(
 }
 
 /// The fault `found`, led to from a tree in which it is below tree `number`.
-fn prepend_tree_number_to_path<'a>(found: Found<'a>, number: usize) -> Result<Found<'a>, AllocError>
+fn prepend_tree_number_to_path<'a>(
+    found: FoundValueFault<'a>,
+    number: usize,
+) -> Result<FoundValueFault<'a>, AllocError>
     ensures { IfOk result (λ led. led.path ≡ number ∷ found.entry.path) }
 {
-    let Found { mut path, fault } = found;
+    let FoundValueFault { mut path, fault } = found;
     path.insert(0, number)?;
-    Ok(Found { path, fault })
+    Ok(FoundValueFault { path, fault })
 }
 
 /// The first fault in a tree that has to spell `wanted`. Each tree comes before those in it, and these come from left to
@@ -242,7 +245,7 @@ pub fn first_value_fault<'a>(
     search: &ValueSearch<'_>,
     form: &'a Form,
     wanted: Wanted<'a>,
-) -> Result<Option<Found<'a>>, AllocError>
+) -> Result<Option<FoundValueFault<'a>>, AllocError>
     ensures none { IfOk result (λ found. is_none found ≡ spec.accepts search.now.source.now
         search.now.results.now (spec.type_of wanted.entry) form.now) }
     ensures place { IfOk result (λ found. spec.is_led search.now.source.now search.now.results.now
@@ -253,7 +256,7 @@ pub fn first_value_fault<'a>(
     }
     if let Form::Node(trees) = form {
         if let Some(types) = types_wanted_in_value(search.source, trees.as_slice(), wanted) {
-            if let Some(found) = first_value_fault_among_trees(
+            if let Some(found) = first_value_fault_after_head(
                 alloc,
                 search,
                 trees.as_slice(),
@@ -265,21 +268,21 @@ pub fn first_value_fault<'a>(
     }
     let fault = value_fault_of_refused_tree(search, form, wanted);
     let path = Items::new(alloc);
-    Ok(Some(Found { path, fault }))
+    Ok(Some(FoundValueFault { path, fault }))
 }
 
 /// The first fault in the trees of a value, or in those of a command. The entries and keys of a map come before its values.
 #[cycle(first_value_fault)]
-pub fn first_value_fault_among_trees<'a>(
+pub fn first_value_fault_after_head<'a>(
     alloc: Global,
     search: &ValueSearch<'_>,
     trees: &'a [Form],
-    types: Types<'a>,
-) -> Result<Option<Found<'a>>, AllocError>
+    types: WantedTypes<'a>,
+) -> Result<Option<FoundValueFault<'a>>, AllocError>
     ensures { IfOk result (λ found. spec.is_led_in search.now.source.now search.now.results.now
         (spec.parts_in types.entry) trees.now found ≡ true) }
 {
-    if let Types::Entries(kind, _) = types {
+    if let WantedTypes::Entries(kind, _) = types {
         if let Some(found) = fault_of_first_bad_map_entry_or_key(alloc, trees, kind)? {
             return Ok(Some(found));
         }
@@ -304,9 +307,9 @@ fn value_fault_at_tree_number<'a>(
     alloc: Global,
     search: &ValueSearch<'_>,
     trees: &'a [Form],
-    types: Types<'a>,
+    types: WantedTypes<'a>,
     number: usize,
-) -> Result<Option<Found<'a>>, AllocError>
+) -> Result<Option<FoundValueFault<'a>>, AllocError>
     ensures { IfOk result (λ found. spec.is_led_in search.now.source.now search.now.results.now
         (spec.parts_in types.entry) trees.now found ≡ true) }
 {
@@ -315,16 +318,18 @@ fn value_fault_at_tree_number<'a>(
     }
     let tree = &trees[number];
     let found = match types {
-        Types::Same(wanted) => first_value_fault(alloc, search, tree, wanted)?,
-        Types::Items(items) => match items.get(number - 1) {
+        WantedTypes::Same(wanted) => first_value_fault(alloc, search, tree, wanted)?,
+        WantedTypes::Items(items) => match items.get(number - 1) {
             Some(item) => first_value_fault(alloc, search, tree, Wanted::Type(item))?,
             None => None,
         },
-        Types::Params(params) => match params.get(number - 1) {
+        WantedTypes::Params(params) => match params.get(number - 1) {
             Some(param) => first_value_fault(alloc, search, tree, Wanted::Type(&param.ty))?,
             None => None,
         },
-        Types::Entries(_, wanted) => value_fault_in_map_entry(alloc, search, tree, wanted)?,
+        WantedTypes::Entries(_, wanted) => first_fault_in_map_entry_value(
+            alloc, search, tree, wanted,
+        )?,
     };
     match found {
         Some(found) => Ok(Some(prepend_tree_number_to_path(found, number)?)),
@@ -334,12 +339,12 @@ fn value_fault_at_tree_number<'a>(
 
 /// The first fault in the value of an entry of a map.
 #[cycle(first_value_fault)]
-fn value_fault_in_map_entry<'a>(
+fn first_fault_in_map_entry_value<'a>(
     alloc: Global,
     search: &ValueSearch<'_>,
     entry: &'a Form,
     wanted: Wanted<'a>,
-) -> Result<Option<Found<'a>>, AllocError>
+) -> Result<Option<FoundValueFault<'a>>, AllocError>
     ensures { IfOk result (λ found. (kind : Option KeyTy) (before : Option Key) →
         spec.is_led search.now.source.now search.now.results.now
         (spec.IsEntry kind before (spec.type_of wanted.entry)) entry.now found ≡ true) }

@@ -2,7 +2,7 @@
 
 use crate::command::{CaseSearch, find_command, result_type_of_command};
 use crate::ill::{ValueFault, value_fault_problem};
-use crate::value_fault::Found;
+use crate::value_fault::FoundValueFault;
 use crate::variables::command_number_of_variable_tree;
 use pst_sexpr::Form;
 use pst_syntax_problems::{
@@ -12,7 +12,7 @@ use pst_value::Ty;
 use std::alloc::Global;
 
 /// The problem `found`, if there is one, with a note on command `number`, whose result the variable refers to.
-fn add_command_result_note(
+fn with_command_result_note_if_known(
     alloc: Global,
     search: &CaseSearch<'_>,
     found: Option<Problem>,
@@ -38,7 +38,7 @@ fn add_command_result_note(
 /// The problem `found` of a tree that is not a value of the type `wanted`. If the tree is a variable, a note says what
 /// it refers to, if that is a command of a known operation. Of another tree, a note says how a value of the type is
 /// written, if the type is a reference, or if it is text and the tree is a word.
-fn with_variable_or_spelling_note(
+fn with_variable_or_spelling_note_if_any(
     alloc: Global,
     search: &CaseSearch<'_>,
     found: Option<Problem>,
@@ -46,7 +46,7 @@ fn with_variable_or_spelling_note(
     wanted: &Ty,
 ) -> FoundProblem {
     if let Some(number) = command_number_of_variable_tree(form) {
-        return add_command_result_note(alloc, search, found, number);
+        return with_command_result_note_if_known(alloc, search, found, number);
     }
     match (form, wanted) {
         (Form::Word(word), Ty::Text) => {
@@ -73,10 +73,10 @@ pub fn problem_of_found_or_other_fault(
     alloc: Global,
     search: &CaseSearch<'_>,
     path: &[usize],
-    found: Option<Found<'_>>,
+    found: Option<FoundValueFault<'_>>,
     other: ValueFault<'_>,
 ) -> FoundProblem {
-    let Some(Found { path: below, fault }) = found else {
+    let Some(FoundValueFault { path: below, fault }) = found else {
         return value_fault_problem(alloc, path, Some(other));
     };
     if matches!(fault, ValueFault::Unnamed) {
@@ -86,7 +86,7 @@ pub fn problem_of_found_or_other_fault(
     path.extend_from_slice(below.as_slice())?;
     let found = value_fault_problem(alloc, path.as_slice(), Some(fault))?;
     match fault {
-        ValueFault::OtherType(form, wanted) => with_variable_or_spelling_note(
+        ValueFault::OtherType(form, wanted) => with_variable_or_spelling_note_if_any(
             alloc, search, found, form, wanted,
         ),
         _ => Ok(found),

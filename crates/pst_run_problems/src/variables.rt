@@ -1,6 +1,6 @@
 //! The variables in a command that it may not see.
 
-use crate::command::{Part, command_number_of_variable, find_part_of_command};
+use crate::command::{Part, command_number_of_variable, find_part_and_offset_of_command};
 use crate::ill::{ValueFault, value_fault_problem};
 use pst_sexpr::Form;
 use pst_syntax_problems::FoundProblem;
@@ -18,8 +18,8 @@ pub enum SoughtVariable {
 /// Whether command `number` is in a branch, and command `command` is in another part.
 fn is_command_in_other_branch(parts: &[Part<'_>], number: usize, command: usize) -> bool {
     let (Some((part, _)), Some((own, _))) = (
-        find_part_of_command(parts, number),
-        find_part_of_command(parts, command),
+        find_part_and_offset_of_command(parts, number),
+        find_part_and_offset_of_command(parts, command),
     ) else {
         return false;
     };
@@ -38,7 +38,7 @@ pub fn command_number_of_variable_tree(form: &Form) -> Option<usize> {
 }
 
 /// The fault of a tree that is no node, if it is a variable that the search looks for.
-fn variable_fault<'a>(
+fn fault_if_sought_variable<'a>(
     parts: &[Part<'_>],
     sought: SoughtVariable,
     form: &Form,
@@ -57,19 +57,19 @@ fn variable_fault<'a>(
 
 /// The first variable in a tree that the search looks for. The path to the tree becomes the path to the variable; it
 /// stays the same if no variable is found.
-fn first_variable_fault<'a>(
+fn first_sought_variable_fault_with_path<'a>(
     parts: &[Part<'_>],
     sought: SoughtVariable,
     path: &mut Vec<usize>,
     form: &Form,
 ) -> Result<Option<ValueFault<'a>>, AllocError> {
     let Form::Node(trees) = form else {
-        return Ok(variable_fault(parts, sought, form));
+        return Ok(fault_if_sought_variable(parts, sought, form));
     };
     for (number, tree) in trees.as_slice().iter().enumerate() {
         if number > 0 {
             path.push(number)?;
-            let found = first_variable_fault(parts, sought, path, tree)?;
+            let found = first_sought_variable_fault_with_path(parts, sought, path, tree)?;
             if found.is_some() {
                 return Ok(found);
             }
@@ -80,7 +80,7 @@ fn first_variable_fault<'a>(
 }
 
 /// The problem of the first variable that the search looks for, in the command that `path` leads to.
-pub fn first_variable_problem(
+pub fn first_sought_variable_problem(
     alloc: Global,
     parts: &[Part<'_>],
     sought: SoughtVariable,
@@ -88,6 +88,6 @@ pub fn first_variable_problem(
     form: &Form,
 ) -> FoundProblem {
     let mut path = Vec::from_slice(alloc, path)?;
-    let ill = first_variable_fault(parts, sought, &mut path, form)?;
+    let ill = first_sought_variable_fault_with_path(parts, sought, &mut path, form)?;
     value_fault_problem(alloc, path.as_slice(), ill)
 }

@@ -3,7 +3,7 @@ use Rattle.std.proofs.Common.{◌≡◌, ℕ, ◌+◌, ◌*◌, ◌≤◌, ◌&&
 use Rattle.std.specs.Prelude.{codes, if◌then◌else◌}
 use Rattle.std.specs.List.{list_all}
 use Rattle.std.proofs.lemmas.List.{length-map}
-use Rattle.pst_case.proofs.Callless.{holds_ref-call}
+use Rattle.pst_case.proofs.Callless.{holds_ref_or_call-call}
 use Rattle.pst_case.specs.Matches.{reply_fits, part_matches, branches_match, matches}
 use Rattle.pst_case.specs.Shape.{before_suffix, result_type, type_in}
 use Rattle.pst_case.specs.declared.case.Case.{Case}
@@ -70,7 +70,7 @@ module _ (m : Source) (model : WellModel m) (has : HasOperations m.items) (langu
   reply_read c (reply.Value v) a e =
       let o = a.operation in
       let low = room_is o.result (has c.op o a.known).result in
-      let call = holds_ref-call o.result (well_operation m c.op o model a.known).result in
+      let call = holds_ref_or_call-call o.result (well_operation m c.op o model a.known).result in
       let fit : fits [] [] (parameters_of m.items) v o.result ≡ true = ap (λ q. fits_in m [] [] v (type_in q)) (sym a.known) ∙ e in
       value_read c v (2 * ty_levels.levels o.result) (omega arith) (reply_again (parameters_of m.items) (in_replies m) v o.result (omega arith) call (λ e. (language e c.op o a.known).result) fit) e
   reply_read c reply.Misfit a e = record {

@@ -141,7 +141,7 @@ fn split_last_tree(parts: &[Form]) -> Option<(&[Form], &Form)>
 }
 
 /// Returns the sections of a case. The last tree is the suffix if it is `(suffix ..)`.
-fn case_sections(parts: &[Form]) -> Sections<'_>
+fn split_off_suffix_section(parts: &[Form]) -> Sections<'_>
     ensures { shown_sections result ≡ spec.sections_of parts.now }
 {
     if let Some((front, last)) = split_last_tree(parts) {
@@ -244,7 +244,7 @@ fn read_case_item_parts<'a>(
 ) -> Result<Option<ItemParts<'a>>, AllocError>
     ensures { IfOk result (λ item. shown_option item ≡ spec.case_parts typed.now parts.now) }
 {
-    let Some(read) = read_spelled_case(alloc, typed, &case_sections(parts))? else {
+    let Some(read) = read_spelled_case(alloc, typed, &split_off_suffix_section(parts))? else {
         return Ok(None);
     };
     Ok(Some(ItemParts {
@@ -263,7 +263,7 @@ fn read_run_item_parts<'a>(
     let Some((front, replies)) = split_last_tree(parts) else {
         return Ok(None);
     };
-    let sections = case_sections(front);
+    let sections = split_off_suffix_section(front);
     let Some(read) = read_spelled_case(alloc, typed, &sections)? else {
         return Ok(None);
     };

@@ -6,14 +6,15 @@ ghost use Rattle.pst_runs.specs.Reading as spec;
 use crate::commands::{SpelledCase, SpelledCommand};
 use crate::room::items_with_capacity;
 use pst_case::{
-    Case, CaseFault, CaseFaultKind, Command, Shaped, are_over_limit, joined_len, shape,
+    Case, CaseFault, CaseFaultKind, Command, Shaped, count_commands_of_branches,
+    is_case_size_outside_limits, shape,
 };
 use pst_model::Typed;
 use pst_value::Items;
 use std::alloc::{AllocError, Global};
 
 /// Returns the commands of a part without those of unknown operations.
-fn readable_commands_of_part(
+fn keep_known_commands_of_part(
     alloc: Global,
     commands: Items<SpelledCommand>,
 ) -> Result<Items<Command>, AllocError>
@@ -38,13 +39,13 @@ fn readable_branches(
 {
     let mut readable = items_with_capacity(alloc, branches.len())?;
     for branch in branches.into_vec() {
-        readable.push(readable_commands_of_part(alloc, branch)?)?;
+        readable.push(keep_known_commands_of_part(alloc, branch)?)?;
     }
     Ok(readable)
 }
 
 /// Returns the case without the commands and the arguments that cannot be read.
-fn readable_case(alloc: Global, case: SpelledCase) -> Result<Case, AllocError>
+fn keep_known_commands_of_case(alloc: Global, case: SpelledCase) -> Result<Case, AllocError>
     ensures { IfOk result (λ readable. readable ≡ spec.readable_case case) }
 {
     let SpelledCase {
@@ -53,14 +54,14 @@ fn readable_case(alloc: Global, case: SpelledCase) -> Result<Case, AllocError>
         suffix,
     } = case;
     Ok(Case {
-        prefix: readable_commands_of_part(alloc, prefix)?,
+        prefix: keep_known_commands_of_part(alloc, prefix)?,
         branches: readable_branches(alloc, branches)?,
-        suffix: readable_commands_of_part(alloc, suffix)?,
+        suffix: keep_known_commands_of_part(alloc, suffix)?,
     })
 }
 
 /// Returns why a command cannot be read whole, if it cannot.
-fn fault_of_unreadable_command(command: &SpelledCommand) -> Option<CaseFaultKind>
+fn reading_fault_of_command(command: &SpelledCommand) -> Option<CaseFaultKind>
     ensures { result ≡ spec.unread command.now }
 {
     match command {
@@ -71,61 +72,67 @@ fn fault_of_unreadable_command(command: &SpelledCommand) -> Option<CaseFaultKind
 }
 
 /// Returns the fault of the first command that cannot be read whole. The commands are numbered from `number` on.
-fn unreadable_part_fault(number: u32, commands: &[SpelledCommand]) -> Option<CaseFault>
+fn first_reading_fault_in_part(number: u32, commands: &[SpelledCommand]) -> Option<CaseFault>
     requires { number + length commands.now < 2 ^ 32 }
     ensures { result ≡ spec.part_unread number commands.now }
 {
     let (command, commands) = commands.split_first()?;
-    match fault_of_unreadable_command(command) {
+    match reading_fault_of_command(command) {
         Some(kind) => Some(CaseFault {
             kind,
             command: number,
         }),
-        None => unreadable_part_fault(number + 1, commands),
+        None => first_reading_fault_in_part(number + 1, commands),
     }
 }
 
 /// Returns the fault of the first command of the branches that cannot be read whole. `before` commands precede them.
-fn unreadable_branches_fault(before: u32, branches: &[Items<SpelledCommand>]) -> Option<CaseFault>
+fn first_reading_fault_in_branches(
+    before: u32,
+    branches: &[Items<SpelledCommand>],
+) -> Option<CaseFault>
     requires { before + length (joined branches.now) + 1 < 2 ^ 32 }
     ensures { result ≡ spec.branches_unread before branches.now }
 {
     let (branch, branches) = branches.split_first()?;
-    match unreadable_part_fault(before + 1, branch.as_slice()) {
+    match first_reading_fault_in_part(before + 1, branch.as_slice()) {
         Some(fault) => Some(fault),
-        None => unreadable_branches_fault(before + branch.len() as u32, branches),
+        None => first_reading_fault_in_branches(before + branch.len() as u32, branches),
     }
 }
 
 /// Returns the fault of the first command of a case that cannot be read whole.
 #[tactic(auto, using(crate::proofs::Limits::spelled_limits))]
-fn unreadable_case_fault(case: &SpelledCase) -> Option<CaseFault>
+fn first_reading_fault_in_case(case: &SpelledCase) -> Option<CaseFault>
     requires { spec.over_limit case.now ≡ false }
     ensures { result ≡ spec.case_unread case.now }
 {
     let branches = case.branches.as_slice();
     let prefix = case.prefix.len() as u32;
-    if let Some(fault) = unreadable_part_fault(1, case.prefix.as_slice()) {
+    if let Some(fault) = first_reading_fault_in_part(1, case.prefix.as_slice()) {
         return Some(fault);
     }
-    if let Some(fault) = unreadable_branches_fault(prefix, branches) {
+    if let Some(fault) = first_reading_fault_in_branches(prefix, branches) {
         return Some(fault);
     }
-    unreadable_part_fault(prefix + joined_len(branches) + 1, case.suffix.as_slice())
+    first_reading_fault_in_part(
+        prefix + count_commands_of_branches(branches) + 1,
+        case.suffix.as_slice(),
+    )
 }
 
 fn is_spelled_case_over_limit(case: &SpelledCase) -> bool
     ensures { result ≡ spec.over_limit case.now }
 {
-    are_over_limit(
+    is_case_size_outside_limits(
         case.prefix.as_slice(),
         case.branches.as_slice(),
         case.suffix.as_slice(),
     )
 }
 
-/// Returns whether the fault `fault_of_unreadable_command` comes before the fault `shape`.
-fn unreadable_fault_comes_first(unread: &CaseFault, shape: &CaseFault) -> bool
+/// Returns whether the fault `reading_fault_of_command` comes before the fault `shape`.
+fn reading_fault_comes_first(unread: &CaseFault, shape: &CaseFault) -> bool
     ensures { result ≡ spec.comes_before unread.now shape.now }
 {
     unread.command < shape.command
@@ -151,7 +158,7 @@ fn earlier_case_fault(unread: Option<CaseFault>, shape: CaseFault) -> CaseFault
     ensures { Some result ≡ spec.first_of unread (Some shape) }
 {
     match unread {
-        Some(unread) => if unreadable_fault_comes_first(&unread, &shape) {
+        Some(unread) => if reading_fault_comes_first(&unread, &shape) {
             unread
         } else {
             shape
@@ -178,8 +185,8 @@ pub fn shape_spelled_case(
             command: 0,
         }));
     }
-    let unread = unreadable_case_fault(&case);
-    match shape(alloc, typed, readable_case(alloc, case)?) {
+    let unread = first_reading_fault_in_case(&case);
+    match shape(alloc, typed, keep_known_commands_of_case(alloc, case)?) {
         Ok(shaped) => match unread {
             Some(fault) => Ok(Err(fault)),
             None => Ok(Ok(shaped)),

@@ -6,14 +6,14 @@ ghost use Rattle.pst_sexpr.specs.Parts.{word_of};
 
 use crate::room::items_with_capacity;
 use crate::values::{Spelling, read_value};
-use pst_case::{Case, Command, History, Reply, joined_len};
+use pst_case::{Case, Command, History, Reply, count_commands_of_branches};
 use pst_model::Typed;
 use pst_sexpr::{Form, node_of, word_of};
 use pst_value::{Items, Value};
 use std::alloc::{AllocError, Global};
 
 /// Returns the trees of a list, or no trees if `form` is no list.
-fn trees_of_list(form: &Form) -> &[Form]
+fn trees_of_list_or_empty(form: &Form) -> &[Form]
     ensures { result.now ≡ spec.listed form.now }
 {
     match node_of(form) {
@@ -23,16 +23,16 @@ fn trees_of_list(form: &Form) -> &[Form]
 }
 
 /// Returns the trees of list `number`, from 0, or no trees if there is no such list.
-fn trees_of_list_at(lists: &[Form], number: usize) -> &[Form]
+fn trees_of_list_at_or_empty(lists: &[Form], number: usize) -> &[Form]
     ensures { result.now ≡ spec.listed_at lists.now number }
 {
     match lists.get(number) {
-        Some(list) => trees_of_list(list),
+        Some(list) => trees_of_list_or_empty(list),
         None => &[],
     }
 }
 
-fn reply_of_word(form: &Form) -> Option<Reply>
+fn read_reply_without_value(form: &Form) -> Option<Reply>
     ensures { result ≡ spec.reply_word (word_of form.now) }
 {
     let word = word_of(form)?;
@@ -50,7 +50,7 @@ fn reply_of_word(form: &Form) -> Option<Reply>
 fn value_or_misfit_reply(typed: &Typed, command: &Command, value: Value) -> Reply
     ensures { result ≡ spec.answered typed.now command.now value }
 {
-    if command.admits(typed, &value) {
+    if command.admits_result(typed, &value) {
         Reply::Value(value)
     } else {
         Reply::Misfit
@@ -67,7 +67,7 @@ fn read_reply(
 ) -> Result<Option<Reply>, AllocError>
     ensures { IfOk result (λ reply. reply ≡ spec.reply_of typed.now command.now form.now) }
 {
-    if let Some(reply) = reply_of_word(form) {
+    if let Some(reply) = read_reply_without_value(form) {
         return Ok(Some(reply));
     }
     match read_value(alloc, form, Spelling::of_replies(typed))? {
@@ -147,7 +147,7 @@ fn read_remaining_branch_replies(
         typed,
         before + 1,
         branch.as_slice(),
-        trees_of_list(list),
+        trees_of_list_or_empty(list),
     )? {
         Ok(replies) => {
             read.push(replies)?;
@@ -177,7 +177,7 @@ pub fn read_history(
     };
     let branches = case.branches.as_slice();
     let commands = case.prefix.as_slice();
-    let prefix = match read_part_replies(alloc, typed, 1, commands, trees_of_list(list))? {
+    let prefix = match read_part_replies(alloc, typed, 1, commands, trees_of_list_or_empty(list))? {
         Ok(replies) => replies,
         Err(number) => return Ok(Err(number)),
     };
@@ -189,8 +189,8 @@ pub fn read_history(
         Ok(replies) => replies,
         Err(number) => return Ok(Err(number)),
     };
-    let first = before + joined_len(branches) + 1;
-    let forms = trees_of_list_at(lists, branches.len());
+    let first = before + count_commands_of_branches(branches) + 1;
+    let forms = trees_of_list_at_or_empty(lists, branches.len());
     match read_part_replies(alloc, typed, first, case.suffix.as_slice(), forms)? {
         Ok(suffix) => Ok(Ok(History {
             prefix,
@@ -209,7 +209,8 @@ fn branch_reply_counts_match(branches: &[Items<Command>], lists: &[Form]) -> boo
     };
     match lists.split_first() {
         Some((list, lists)) => {
-            trees_of_list(list).len() == branch.len() && branch_reply_counts_match(branches, lists)
+            trees_of_list_or_empty(list).len() == branch.len()
+                && branch_reply_counts_match(branches, lists)
         }
         None => false,
     }
@@ -221,9 +222,9 @@ pub fn reply_counts_match(case: &Case, lists: &[Form]) -> bool
 {
     match lists.split_first() {
         Some((list, lists)) => {
-            trees_of_list(list).len() == case.prefix.len()
+            trees_of_list_or_empty(list).len() == case.prefix.len()
                 && branch_reply_counts_match(case.branches.as_slice(), lists)
-                && trees_of_list_at(lists, case.branches.len()).len() == case.suffix.len()
+                && trees_of_list_at_or_empty(lists, case.branches.len()).len() == case.suffix.len()
         }
         None => false,
     }

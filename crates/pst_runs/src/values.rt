@@ -6,7 +6,7 @@ use crate::keys::{map_entry_key_and_value, read_map_keys};
 use crate::room::items_with_capacity;
 use pst_model::Typed;
 use pst_sexpr::{Form, MAX_LEVELS, are_digits, integer_of, magnitude_of, word_of};
-use pst_value::{Boxed, Items, Text, Value, rising};
+use pst_value::{Boxed, Items, Text, Value, are_rising};
 use std::alloc::{AllocError, Global};
 
 /// What the values that trees spell may contain.
@@ -173,7 +173,7 @@ fn read_map_value(
     let Some(values) = read_map_entry_values(alloc, entries, spelling, room)? else {
         return Ok(None);
     };
-    if rising(keys.as_slice()) {
+    if are_rising(keys.as_slice()) {
         Ok(Some(Value::Map(Boxed::new(alloc, keys)?, Boxed::new(alloc, values)?)))
     } else {
         Ok(None)

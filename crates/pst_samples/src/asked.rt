@@ -14,7 +14,7 @@ pub fn is_call_without_arguments(call: &RealCall, name: &str) -> bool
 }
 
 /// The argument of a call that has that name and one argument, an integer.
-pub fn integer_argument_of(call: &RealCall, name: &str) -> Option<i64>
+pub fn sole_integer_argument_of_call(call: &RealCall, name: &str) -> Option<i64>
     ensures { MatchOption result (IsNumbered name.now call.now → ⊥) (λ n. HasNumber name.now n call.now) }
 {
     if call.name.as_str() != name {
@@ -30,7 +30,7 @@ pub fn integer_argument_of(call: &RealCall, name: &str) -> Option<i64>
 pub fn side_of_meet_call(call: &RealCall) -> Option<Side>
     ensures { MatchOption result (IsMeet call.now → ⊥) (λ _. IsMeet call.now) }
 {
-    match integer_argument_of(call, "meet") {
+    match sole_integer_argument_of_call(call, "meet") {
         Some(1) => Some(Side::First),
         Some(2) => Some(Side::Second),
         _ => None,

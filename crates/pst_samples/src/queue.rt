@@ -2,7 +2,7 @@
 ghost use Rattle.std.specs.Prelude.{◌≡◌, MatchResult, IfOk};
 ghost use Rattle.pst_samples.specs.Calls.{AreAtMostOneInt};
 
-use crate::asked::{integer_argument_of, is_call_without_arguments};
+use crate::asked::{is_call_without_arguments, sole_integer_argument_of_call};
 use pst_system::{CallFault, RealCall, System};
 use pst_value::{Items, Value};
 use std::alloc::{AllocError, Global};
@@ -78,7 +78,7 @@ impl<R: Wait + Drop + Send + Sync> System for Queue<R> {
                 Err(AllocError) => Err(CallFault::NoMemory),
             };
         }
-        if let Some(item) = integer_argument_of(call, "put") {
+        if let Some(item) = sole_integer_argument_of_call(call, "put") {
             self.put(item)?;
             return Ok(Value::Bool(true));
         }

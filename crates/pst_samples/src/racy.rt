@@ -25,7 +25,7 @@ impl Racy {
         }
     }
 
-    fn increment(&self) -> Result<Value, CallFault>
+    fn increment_racily(&self) -> Result<Value, CallFault>
         ensures { MatchResult result IsInt (λ f. f ≡ Refused) }
     {
         let number = self.number.load(Ordering::SeqCst);
@@ -57,7 +57,7 @@ impl System for Racy {
             return Ok(Value::Int(self.number.load(Ordering::SeqCst)));
         }
         if is_call_without_arguments(call, "inc") {
-            return self.increment();
+            return self.increment_racily();
         }
         Err(CallFault::Refused)
     }

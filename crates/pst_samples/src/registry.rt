@@ -3,7 +3,7 @@ ghost use Rattle.std.specs.Prelude.{◌≡◌, MatchResult};
 ghost use Rattle.pst_samples.specs.Calls.{IsInt};
 ghost use Rattle.pst_system.specs.declared.call.CallFault.TheVariants.{NoMemory};
 
-use crate::asked::{integer_argument_of, is_call_without_arguments};
+use crate::asked::{is_call_without_arguments, sole_integer_argument_of_call};
 use pst_system::{CallFault, RealCall, System};
 use pst_value::Value;
 use std::alloc::Global;
@@ -84,10 +84,10 @@ impl<R: Wait + Drop + Send + Sync> System for Registry<R> {
         if is_call_without_arguments(call, "new") {
             return self.open_number();
         }
-        if let Some(number) = integer_argument_of(call, "close") {
+        if let Some(number) = sole_integer_argument_of_call(call, "close") {
             return Ok(Value::Bool(self.close_number(number)));
         }
-        if let Some(number) = integer_argument_of(call, "read") {
+        if let Some(number) = sole_integer_argument_of_call(call, "read") {
             let answer = if self.is_open(number) { number } else { -1 };
             return Ok(Value::Int(answer));
         }

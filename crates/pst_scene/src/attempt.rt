@@ -64,7 +64,7 @@ pub fn try_evaluate(
 }
 
 /// Evaluates expressions from left to right.
-pub fn try_evaluate_each<'a>(
+pub fn evaluate_references_in_turn<'a>(
     exprs: &[&'a Expr],
     context: &Context<'_>,
     env: &Env<'_>,
@@ -88,7 +88,7 @@ pub fn try_evaluate_each<'a>(
 }
 
 /// Evaluates the expressions of a slice from left to right.
-pub fn try_evaluate_all<'a>(
+pub fn evaluate_in_turn<'a>(
     exprs: &'a [Expr],
     context: &Context<'_>,
     env: &Env<'_>,
@@ -96,12 +96,15 @@ pub fn try_evaluate_all<'a>(
 ) -> Result<TriedAll<'a>, AllocError>
     ensures { IfOk result (AttemptsAll (mean_in context.now) exprs.now (env_of env.now) turns) }
 {
-    let each = references(context.alloc, exprs)?;
-    try_evaluate_each(each.as_slice(), context, env, turns)
+    let each = expression_references(context.alloc, exprs)?;
+    evaluate_references_in_turn(each.as_slice(), context, env, turns)
 }
 
 /// A reference to each expression of a slice.
-pub fn references<'a>(alloc: Global, exprs: &'a [Expr]) -> Result<Vec<&'a Expr>, AllocError>
+pub fn expression_references<'a>(
+    alloc: Global,
+    exprs: &'a [Expr],
+) -> Result<Vec<&'a Expr>, AllocError>
     ensures { IfOk result (λ each. referred each.items ≡ exprs.now) }
 {
     let mut each = Vec::new(alloc);

@@ -176,7 +176,7 @@ impl<'a> Call<'a> {
     }
 
     /// Adds the text, followed by the reply, or by the command's variable if it has no reply.
-    pub fn add_text_with_reply(
+    pub fn add_text_with_reply_or_variable(
         &self,
         out: &mut Vec<u8>,
         alloc: Global,
@@ -191,9 +191,13 @@ impl<'a> Call<'a> {
     }
 
     /// The text, followed by the reply, or by the command's variable if it has no reply.
-    pub fn text_with_reply(&self, alloc: Global, model: &Source) -> Result<Vec<u8>, AllocError> {
+    pub fn text_with_reply_or_variable(
+        &self,
+        alloc: Global,
+        model: &Source,
+    ) -> Result<Vec<u8>, AllocError> {
         let mut out = Vec::new(alloc);
-        self.add_text_with_reply(&mut out, alloc, model)?;
+        self.add_text_with_reply_or_variable(&mut out, alloc, model)?;
         Ok(out)
     }
 }

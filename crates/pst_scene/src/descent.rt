@@ -12,11 +12,11 @@ ghost use Rattle.pst_scene.specs.Outcomes.{outcome_at};
 ghost use Rattle.pst_scene.specs.Parts.{Appends, SameIfSome, Visits};
 
 use crate::attempt::{
-    Site, Tried, TriedAll, last_function_named, split_first_clause, try_evaluate, try_evaluate_all,
+    Site, Tried, TriedAll, evaluate_in_turn, last_function_named, split_first_clause, try_evaluate,
     whole_expression_as_faulty_part,
 };
 use crate::faulty::FaultyPart;
-use crate::parts::deciding_part;
+use crate::parts::faulty_operand_or_chosen_branch;
 use pst_eval::{Context, Env};
 use pst_model::{Clause, Expr};
 use pst_operators::{Stop, append, items_of, take_turn};
@@ -51,7 +51,7 @@ fn append_to_built_list<'a>(
 
 /// The part of an expression that has no value by itself.
 #[cycle(descent)]
-pub fn faulty_part_in_expression<'a>(
+pub fn descend_to_faulty_part<'a>(
     expr: &'a Expr,
     site: &Site<'a>,
     env: &Env<'_>,
@@ -63,15 +63,15 @@ pub fn faulty_part_in_expression<'a>(
     let context = &site.context;
     match expr {
         Expr::Let(name, bound, body) => match try_evaluate(bound.get(), context, env, turns)? {
-            Tried::Faults(_) => faulty_part_in_expression(bound.get(), site, env, turns),
+            Tried::Faults(_) => descend_to_faulty_part(bound.get(), site, env, turns),
             Tried::Gives(value, left) => {
                 let inner = Env::With(name.as_bytes(), &value, &*env);
-                faulty_part_in_expression(body.get(), site, &inner, left)
+                descend_to_faulty_part(body.get(), site, &inner, left)
             }
             Tried::Stuck => whole_expression_as_faulty_part(expr, site, env, turns),
         },
-        Expr::Apply(name, parts) => match try_evaluate_all(parts.as_slice(), context, env, turns)? {
-            TriedAll::Faults(part, left, _) => faulty_part_in_expression(part, site, env, left),
+        Expr::Apply(name, parts) => match evaluate_in_turn(parts.as_slice(), context, env, turns)? {
+            TriedAll::Faults(part, left, _) => descend_to_faulty_part(part, site, env, left),
             TriedAll::Give(arguments, left) => {
                 match faulty_part_in_function_body(
                     name.as_bytes(),
@@ -87,7 +87,7 @@ pub fn faulty_part_in_expression<'a>(
         },
         Expr::For(clauses, body) => {
             let built = Items::new(context.alloc);
-            match visit_clauses(clauses.as_slice(), body.get(), site, env, turns, built)? {
+            match try_comprehension(clauses.as_slice(), body.get(), site, env, turns, built)? {
                 Visited::Part(part, _) => Ok(part),
                 _ => whole_expression_as_faulty_part(expr, site, env, turns),
             }
@@ -96,8 +96,8 @@ pub fn faulty_part_in_expression<'a>(
             Some(part) => Ok(part),
             None => whole_expression_as_faulty_part(expr, site, env, turns),
         },
-        _ => match deciding_part(expr, context, env, turns)? {
-            Some((part, left)) => faulty_part_in_expression(part, site, env, left),
+        _ => match faulty_operand_or_chosen_branch(expr, context, env, turns)? {
+            Some((part, left)) => descend_to_faulty_part(part, site, env, left),
             None => whole_expression_as_faulty_part(expr, site, env, turns),
         },
     }
@@ -135,7 +135,7 @@ fn faulty_part_in_function_body<'a>(
         function: Some(function.name.as_str()),
     };
     let frame = Env::Frame(function.params.as_slice(), arguments);
-    Ok(Some(faulty_part_in_expression(&function.body, &inner, &frame, left)?))
+    Ok(Some(descend_to_faulty_part(&function.body, &inner, &frame, left)?))
 }
 
 /// The part of a fold that has no value by itself, if it is not the whole fold. `None` of any other form.
@@ -154,15 +154,10 @@ fn faulty_part_in_fold<'a>(
     };
     let context = &site.context;
     match try_evaluate(list.get(), context, env, turns)? {
-        Tried::Faults(_) => Ok(Some(faulty_part_in_expression(list.get(), site, env, turns)?)),
+        Tried::Faults(_) => Ok(Some(descend_to_faulty_part(list.get(), site, env, turns)?)),
         Tried::Gives(value, left) => match items_of(value) {
             Ok(items) => match try_evaluate(first.get(), context, env, left)? {
-                Tried::Faults(_) => Ok(Some(faulty_part_in_expression(
-                    first.get(),
-                    site,
-                    env,
-                    left,
-                )?)),
+                Tried::Faults(_) => Ok(Some(descend_to_faulty_part(first.get(), site, env, left)?)),
                 Tried::Gives(first, left) => {
                     faulty_part_in_fold_items(
                         body.get(),
@@ -209,9 +204,7 @@ fn faulty_part_in_fold_items<'a>(
         let outer = Env::With(&*name, item, &*env);
         let inner = Env::With(&*acc, &built, &outer);
         match try_evaluate(body, &site.context, &inner, left)? {
-            Tried::Faults(_) => return Ok(Some(faulty_part_in_expression(
-                body, site, &inner, left,
-            )?)),
+            Tried::Faults(_) => return Ok(Some(descend_to_faulty_part(body, site, &inner, left)?)),
             Tried::Gives(next, more) => {
                 built = next;
                 left = more;
@@ -224,7 +217,7 @@ fn faulty_part_in_fold_items<'a>(
 
 /// The result of visiting clauses, and after them the body.
 #[cycle(descent)]
-fn visit_clauses<'a>(
+fn try_comprehension<'a>(
     clauses: &'a [Clause],
     body: &'a Expr,
     site: &Site<'a>,
@@ -241,7 +234,7 @@ fn visit_clauses<'a>(
     let Some((first, rest)) = split_first_clause(clauses) else {
         return match try_evaluate(body, context, env, turns)? {
             Tried::Faults(fault) => {
-                Ok(Visited::Part(faulty_part_in_expression(body, site, env, turns)?, fault))
+                Ok(Visited::Part(descend_to_faulty_part(body, site, env, turns)?, fault))
             }
             Tried::Gives(value, left) => append_to_built_list(built, value, left),
             Tried::Stuck => Ok(Visited::Itself),
@@ -250,11 +243,11 @@ fn visit_clauses<'a>(
     match first {
         Clause::In(name, list) => match try_evaluate(list, context, env, turns)? {
             Tried::Faults(fault) => {
-                Ok(Visited::Part(faulty_part_in_expression(list, site, env, turns)?, fault))
+                Ok(Visited::Part(descend_to_faulty_part(list, site, env, turns)?, fault))
             }
             Tried::Gives(value, left) => match items_of(value) {
                 Ok(items) => {
-                    visit_clauses_for_each_item(
+                    try_clause_items(
                         rest,
                         body,
                         name.as_bytes(),
@@ -271,10 +264,10 @@ fn visit_clauses<'a>(
         },
         Clause::When(test) => match try_evaluate(test, context, env, turns)? {
             Tried::Faults(fault) => {
-                Ok(Visited::Part(faulty_part_in_expression(test, site, env, turns)?, fault))
+                Ok(Visited::Part(descend_to_faulty_part(test, site, env, turns)?, fault))
             }
             Tried::Gives(Value::Bool(true), left) => {
-                visit_clauses(rest, body, site, env, left, built)
+                try_comprehension(rest, body, site, env, left, built)
             }
             Tried::Gives(Value::Bool(false), left) => Ok(Visited::Built(built, left)),
             _ => Ok(Visited::Itself),
@@ -285,7 +278,7 @@ fn visit_clauses<'a>(
 /// The result of visiting the other clauses for each item. What is evaluated, its names and what is built so far are
 /// parameters of their own, since the contract names each.
 #[cycle(descent)]
-fn visit_clauses_for_each_item<'a>(
+fn try_clause_items<'a>(
     rest: &'a [Clause],
     body: &'a Expr,
     name: &[u8],
@@ -307,7 +300,7 @@ fn visit_clauses_for_each_item<'a>(
             Err(_) => return Ok(Visited::Itself),
         }
         let inner = Env::With(&*name, item, &*env);
-        match visit_clauses(rest, body, site, &inner, left, built)? {
+        match try_comprehension(rest, body, site, &inner, left, built)? {
             Visited::Built(more, fewer) => {
                 built = more;
                 left = fewer;

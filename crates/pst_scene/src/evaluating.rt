@@ -28,7 +28,7 @@ pub fn evaluation_context_of_model<'a>(alloc: Global, model: &'a Source) -> Cont
 
 /// The value of an expression of the model in an environment, or why it has none, which is never lack of memory.
 #[tactic(auto, unfolding(pst_eval::specs::Callbacks::at_names))]
-pub fn evaluate(
+pub fn evaluate_expression_of_model(
     alloc: Global,
     model: &Source,
     expr: &Expr,
@@ -59,7 +59,7 @@ pub fn value_of_expression_in_environment(
 ) -> Result<Option<Value>, AllocError>
     ensures { IfOk result (GivesValue (at_names model.now expr.now (env_of env.now))) }
 {
-    match evaluate(alloc, model, expr, env)? {
+    match evaluate_expression_of_model(alloc, model, expr, env)? {
         Ok(value) => Ok(Some(value)),
         Err(Stop::Fault(_)) => Ok(None),
         Err(Stop::Stuck) => Ok(None),

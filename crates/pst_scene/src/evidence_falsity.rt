@@ -46,12 +46,12 @@ fn expression_without_negation(expr: &Expr) -> &Expr {
 }
 
 /// Whether a part says more than the expression around it: `true` and `false` alone say nothing.
-fn says_more_than_whole(found: &FalsePart<'_>) -> bool {
+fn is_informative_false_part(found: &FalsePart<'_>) -> bool {
     !matches!(found.part, Expr::Bool(_)) || !matches!(found.evidence, Evidence::Nothing)
 }
 
 /// The operands of a comparison or of its negation, if the expression is one.
-fn compared_operands(expr: &Expr) -> Option<(&Expr, &Expr)> {
+fn operands_of_maybe_negated_comparison(expr: &Expr) -> Option<(&Expr, &Expr)> {
     let Expr::Binary(operator, first, second) = expression_without_negation(expr) else {
         return None;
     };
@@ -71,13 +71,13 @@ fn evidence_of_compared_values(first: Option<Value>, second: Option<Value>) -> E
 }
 
 /// The values that a comparison or its negation compares, if the expression is one.
-fn compared_values(
+fn evidence_of_comparison(
     alloc: Global,
     model: &Source,
     expr: &Expr,
     env: &Env<'_>,
 ) -> Result<Evidence, AllocError> {
-    let Some((first, second)) = compared_operands(expr) else {
+    let Some((first, second)) = operands_of_maybe_negated_comparison(expr) else {
         return Ok(Evidence::Nothing);
     };
     let first = value_of_expression_in_environment(alloc, model, first, env)?;
@@ -96,7 +96,7 @@ fn whole_expression_as_false_part<'a>(
 {
     let evidence = match reply_wanted_by_part(alloc, model, expr, env)? {
         Some(value) => Evidence::Wants(value),
-        None => compared_values(alloc, model, expr, env)?,
+        None => evidence_of_comparison(alloc, model, expr, env)?,
     };
     Ok(FalsePart {
         part: expr,
@@ -153,7 +153,7 @@ fn false_part_within_conjunct_or_if<'a>(
                 None => None,
             };
             match found {
-                Some(part) if says_more_than_whole(&part) => Ok(Some(part)),
+                Some(part) if is_informative_false_part(&part) => Ok(Some(part)),
                 _ => Ok(None),
             }
         }

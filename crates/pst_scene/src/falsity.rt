@@ -6,7 +6,7 @@ use crate::scene::Scene;
 use crate::texts::{
     copy_explanation_text, expression_text, join_explanation_parts, operation_of_call, value_text,
 };
-use crate::walk::recorded_arguments;
+use crate::walk::arguments_with_recorded_results;
 use pst_case::Reply;
 use pst_eval::Env;
 use pst_model::Source;
@@ -88,7 +88,7 @@ pub enum Falsity<'a> {
 }
 
 /// Why the postcondition of a command is not true on the state before it.
-pub fn falsity_of_postcondition<'a>(
+pub fn why_postcondition_is_not_true<'a>(
     alloc: Global,
     scene: &Scene<'a>,
     call: &Call<'_>,
@@ -100,7 +100,7 @@ pub fn falsity_of_postcondition<'a>(
     let Some(Reply::Value(reply)) = call.reply else {
         return Ok(Falsity::Unknown);
     };
-    let args = recorded_arguments(alloc, scene, call)?;
+    let args = arguments_with_recorded_results(alloc, scene, call)?;
     let frame = Env::Frame(operation.params.as_slice(), args.as_slice());
     let outer = Env::With(b"s", &*state, &frame);
     let inner = Env::With(b"r", reply, &outer);

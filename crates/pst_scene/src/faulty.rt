@@ -7,8 +7,8 @@ ghost use Rattle.pst_scene.specs.Outcomes.{FaultsIn};
 
 use crate::attempt::Site;
 use crate::binding::Binding;
-use crate::descent::faulty_part_in_expression;
-use crate::evaluating::{TURNS, evaluate, evaluation_context_of_model};
+use crate::descent::descend_to_faulty_part;
+use crate::evaluating::{TURNS, evaluate_expression_of_model, evaluation_context_of_model};
 use pst_eval::Env;
 use pst_model::{Expr, Item, Source};
 use pst_operators::Stop;
@@ -38,14 +38,14 @@ pub fn faulty_part_of_expression<'a>(
 ) -> Result<Option<FaultyPart<'a>>, AllocError>
     ensures { IfOk result (FaultsIn model.now.items (at_names model.now expr.now (env_of env.now))) }
 {
-    match evaluate(alloc, model, expr, env)? {
+    match evaluate_expression_of_model(alloc, model, expr, env)? {
         Ok(_) => Ok(None),
         Err(Stop::Fault(_)) => {
             let site = Site {
                 context: evaluation_context_of_model(alloc, model),
                 function: None,
             };
-            Ok(Some(faulty_part_in_expression(expr, &site, env, TURNS)?))
+            Ok(Some(descend_to_faulty_part(expr, &site, env, TURNS)?))
         }
         Err(Stop::Stuck) => Ok(None),
         Err(Stop::NoMemory) => Err(AllocError),

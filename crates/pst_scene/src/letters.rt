@@ -12,12 +12,15 @@ pub fn branch_letter(branch: usize) -> u8 {
     }
 }
 
-/// Adds an interleaving of branches: a letter for each branch in `word`, or `-` if it is empty.
-pub fn add_interleaving_letters(out: &mut Vec<u8>, word: &[usize]) -> Result<(), AllocError> {
-    if word.is_empty() {
+/// Adds an interleaving of branches: a letter for each branch in `interleaving`, or `-` if it is empty.
+pub fn add_interleaving_letters_or_dash(
+    out: &mut Vec<u8>,
+    interleaving: &[usize],
+) -> Result<(), AllocError> {
+    if interleaving.is_empty() {
         out.push(b'-')?;
     }
-    for branch in word {
+    for branch in interleaving {
         out.push(branch_letter(*branch))?;
     }
     Ok(())

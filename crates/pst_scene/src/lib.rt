@@ -2,7 +2,7 @@
 //! states along an interleaving, and why a command cannot come next on a state.
 //!
 //! It also evaluates expressions and their parts, for the false or faulting part of a callback. It serves `pst_explain`,
-//! whose output is tested and not proved: the contracts cover only `cut_in_middle`, `scene_of_run` and these
+//! whose output is tested and not proved: the contracts cover only `cut_in_middle_if_too_long`, `scene_of_run` and these
 //! evaluations.
 #![tactic(auto)]
 
@@ -32,13 +32,13 @@ mod words;
 
 pub use binding::{Binding, bindings_of_environment};
 pub use calls::{Call, Calls, CasePart};
-pub use cutting::cut_in_middle;
-pub use evaluating::evaluate;
+pub use cutting::cut_in_middle_if_too_long;
+pub use evaluating::evaluate_expression_of_model;
 pub use evidence_falsity::{Evidence, FalsePart, false_part_of_postcondition};
-pub use falsity::{Falsity, false_postcondition_text, falsity_of_postcondition};
+pub use falsity::{Falsity, false_postcondition_text, why_postcondition_is_not_true};
 pub use faulty::{FaultyPart, faulty_part_of_expression};
 pub use forms::{add_quoted_text, add_tree_spelling};
-pub use letters::add_interleaving_letters;
+pub use letters::add_interleaving_letters_or_dash;
 pub use order::{
     call_numbered, calls_in_interleaving_order, calls_that_may_come_next,
     count_calls_before_number, first_calls,
@@ -53,9 +53,9 @@ pub use texts::{
     copy_explanation_text, expression_text, join_explanation_parts, operation_of_call, value_text,
 };
 pub use walk::{
-    PreAnswer, calls_before_call_in_interleaving, evaluate_precondition, initial_state,
-    recorded_arguments, reference_to_result, state_after_call, state_before_call_in_interleaving,
-    states_along_calls,
+    PreAnswer, arguments_with_recorded_results, calls_before_call_in_interleaving,
+    evaluate_initial_state, evaluate_precondition, result_reference_or_variable, state_after_call,
+    state_before_call_in_interleaving, states_along_calls,
 };
 pub use wanted::{postcondition_wants_one_reply, reply_wanted_by_postcondition};
 pub use words::words_of_expression;

@@ -3,10 +3,10 @@
 use crate::calls::{Call, Calls};
 use std::alloc::{AllocError, Global};
 
-/// Returns how many letters of `word` are `branch`.
-fn count_branch_in_interleaving(word: &[usize], branch: usize) -> usize {
+/// Returns how many letters of `interleaving` are `branch`.
+fn count_branch_in_interleaving(interleaving: &[usize], branch: usize) -> usize {
     let mut count = 0usize;
-    for letter in word {
+    for letter in interleaving {
         if *letter == branch {
             count = count.saturating_add(1);
         }
@@ -14,11 +14,15 @@ fn count_branch_in_interleaving(word: &[usize], branch: usize) -> usize {
     count
 }
 
-/// Returns the next command of `branch` after the interleaving `word`.
-fn next_call_of_branch<'a>(calls: &Calls<'a>, word: &[usize], branch: usize) -> Option<Call<'a>> {
+/// Returns the next command of `branch` after the interleaving `interleaving`.
+fn next_call_of_branch_after_interleaving<'a>(
+    calls: &Calls<'a>,
+    interleaving: &[usize],
+    branch: usize,
+) -> Option<Call<'a>> {
     let commands = calls.branches.get(branch)?;
     commands
-        .get(count_branch_in_interleaving(word, branch))
+        .get(count_branch_in_interleaving(interleaving, branch))
         .copied()
 }
 
@@ -29,18 +33,18 @@ fn add_calls<'a>(order: &mut Vec<Call<'a>>, calls: &[Call<'a>]) -> Result<(), Al
     Ok(())
 }
 
-/// Returns the commands of the prefix, those of the branches in the order of the interleaving `word`, and those of the
+/// Returns the commands of the prefix, those of the branches in the order of the interleaving `interleaving`, and those of the
 /// suffix.
 pub fn calls_in_interleaving_order<'a>(
     alloc: Global,
     calls: &Calls<'a>,
-    word: &[usize],
+    interleaving: &[usize],
 ) -> Result<Vec<Call<'a>>, AllocError> {
     let mut order = Vec::new(alloc);
     add_calls(&mut order, calls.prefix.as_slice())?;
-    for (index, branch) in word.iter().enumerate() {
-        let before = word.get(..index).unwrap_or(&[]);
-        if let Some(call) = next_call_of_branch(calls, before, *branch) {
+    for (index, branch) in interleaving.iter().enumerate() {
+        let before = interleaving.get(..index).unwrap_or(&[]);
+        if let Some(call) = next_call_of_branch_after_interleaving(calls, before, *branch) {
             order.push(call)?;
         }
     }
@@ -48,27 +52,27 @@ pub fn calls_in_interleaving_order<'a>(
     Ok(order)
 }
 
-/// Returns the next command of each branch after the interleaving `word`.
+/// Returns the next command of each branch after the interleaving `interleaving`.
 fn next_call_of_each_branch<'a>(
     alloc: Global,
     calls: &Calls<'a>,
-    word: &[usize],
+    interleaving: &[usize],
 ) -> Result<Vec<Call<'a>>, AllocError> {
     let mut next = Vec::new(alloc);
     for branch in 0..calls.branches.len() {
-        if let Some(call) = next_call_of_branch(calls, word, branch) {
+        if let Some(call) = next_call_of_branch_after_interleaving(calls, interleaving, branch) {
             next.push(call)?;
         }
     }
     Ok(next)
 }
 
-/// Returns the commands that may come after the first `count` events of the prefix, the interleaving `word` and the
+/// Returns the commands that may come after the first `count` events of the prefix, the interleaving `interleaving` and the
 /// suffix: the next one of the prefix, or of each branch, or of the suffix.
 pub fn calls_that_may_come_next<'a>(
     alloc: Global,
     calls: &Calls<'a>,
-    word: &[usize],
+    interleaving: &[usize],
     count: usize,
 ) -> Result<Vec<Call<'a>>, AllocError> {
     let mut next = Vec::new(alloc);
@@ -76,11 +80,11 @@ pub fn calls_that_may_come_next<'a>(
         next.push(*call)?;
         return Ok(next);
     }
-    let next = next_call_of_each_branch(alloc, calls, word)?;
+    let next = next_call_of_each_branch(alloc, calls, interleaving)?;
     if !next.is_empty() {
         return Ok(next);
     }
-    let before = calls.prefix.len().saturating_add(word.len());
+    let before = calls.prefix.len().saturating_add(interleaving.len());
     let mut next = next;
     if let Some(call) = calls.suffix.get(count.saturating_sub(before)) {
         next.push(*call)?;

@@ -1,11 +1,13 @@
 //! The outcome of a command on a state.
 
 use crate::calls::Call;
-use crate::evaluating::evaluate;
-use crate::falsity::{Falsity, false_postcondition_text, falsity_of_postcondition};
+use crate::evaluating::evaluate_expression_of_model;
+use crate::falsity::{Falsity, false_postcondition_text, why_postcondition_is_not_true};
 use crate::scene::Scene;
 use crate::texts::{copy_explanation_text, join_explanation_parts, operation_of_call};
-use crate::walk::{PreAnswer, evaluate_precondition, recorded_arguments, state_after_call};
+use crate::walk::{
+    PreAnswer, arguments_with_recorded_results, evaluate_precondition, state_after_call,
+};
 use pst_case::Reply;
 use pst_eval::Env;
 use pst_model::Source;
@@ -47,11 +49,11 @@ fn answer_satisfies_postcondition(
     let Some(operation) = operation_of_call(scene, call) else {
         return Ok(false);
     };
-    let args = recorded_arguments(alloc, scene, call)?;
+    let args = arguments_with_recorded_results(alloc, scene, call)?;
     let frame = Env::Frame(operation.params.as_slice(), args.as_slice());
     let outer = Env::With(b"s", &*state, &frame);
     let inner = Env::With(b"r", answer, &outer);
-    let outcome = evaluate(alloc, scene.model, &operation.post, &inner)?;
+    let outcome = evaluate_expression_of_model(alloc, scene.model, &operation.post, &inner)?;
     Ok(matches!(outcome, Ok(Value::Bool(true))))
 }
 
@@ -69,7 +71,7 @@ fn outcome_of_next_callback<'a>(
 }
 
 /// Returns the outcome of a command of a case that was not run, by its precondition.
-fn outcome_by_precondition<'a>(
+fn outcome_by_precondition_and_next<'a>(
     alloc: Global,
     scene: &Scene<'a>,
     state: &Value,
@@ -83,7 +85,7 @@ fn outcome_by_precondition<'a>(
 }
 
 /// Returns the outcome of a command that answered a value, by its postcondition.
-fn outcome_by_postcondition<'a>(
+fn outcome_by_postcondition_and_next<'a>(
     alloc: Global,
     scene: &Scene<'a>,
     state: &Value,
@@ -93,7 +95,7 @@ fn outcome_by_postcondition<'a>(
     if answer_satisfies_postcondition(alloc, scene, state, call, answer)? {
         return outcome_of_next_callback(alloc, scene, state, call);
     }
-    let falsity = falsity_of_postcondition(alloc, scene, call, state)?;
+    let falsity = why_postcondition_is_not_true(alloc, scene, call, state)?;
     Ok(Outcome::Refused(DeadEnd::PostFails(falsity)))
 }
 
@@ -105,8 +107,10 @@ pub fn outcome_of_call_on_state<'a>(
     call: &Call<'_>,
 ) -> Result<Outcome<'a>, AllocError> {
     match call.reply {
-        None => outcome_by_precondition(alloc, scene, state, call),
-        Some(Reply::Value(answer)) => outcome_by_postcondition(alloc, scene, state, call, answer),
+        None => outcome_by_precondition_and_next(alloc, scene, state, call),
+        Some(Reply::Value(answer)) => outcome_by_postcondition_and_next(
+            alloc, scene, state, call, answer,
+        ),
         Some(_) => Ok(Outcome::Refused(DeadEnd::NoValue)),
     }
 }

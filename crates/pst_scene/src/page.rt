@@ -1,6 +1,6 @@
 //! Lines of a width.
 
-use crate::cutting::cut_in_middle;
+use crate::cutting::cut_in_middle_if_too_long;
 use crate::style::{END, Style};
 use std::alloc::{AllocError, Global};
 
@@ -18,11 +18,11 @@ pub struct Page {
 impl Page {
     /// An empty page without colors.
     pub fn new(alloc: Global, width: usize) -> Page {
-        Page::after(Vec::new(alloc), width)
+        Page::plain_after(Vec::new(alloc), width)
     }
 
     /// A page without colors whose lines come after `text`.
-    pub fn after(text: Vec<u8>, width: usize) -> Page {
+    pub fn plain_after(text: Vec<u8>, width: usize) -> Page {
         Page {
             text,
             width,
@@ -50,8 +50,8 @@ impl Page {
     }
 
     /// Adds a text in a style.
-    pub(crate) fn add_styled(&mut self, style: Style, text: &[u8]) -> Result<(), AllocError> {
-        let start = style.start().filter(|_| self.has_color);
+    pub(crate) fn add_styled_text(&mut self, style: Style, text: &[u8]) -> Result<(), AllocError> {
+        let start = style.terminal_start_code().filter(|_| self.has_color);
         let Some(start) = start else {
             return self.text.extend_from_slice(text);
         };
@@ -69,7 +69,7 @@ impl Page {
     }
 
     /// Adds a line, indented by `indent` spaces. If it does not fit, it is cut in the middle.
-    pub fn add_line(
+    pub fn add_line_cut_to_width(
         &mut self,
         alloc: Global,
         indent: usize,
@@ -78,7 +78,7 @@ impl Page {
         self.add_styled_line(alloc, indent, Style::Plain, line)
     }
 
-    /// Adds a line in a style, as `add_line` does.
+    /// Adds a line in a style, as `add_line_cut_to_width` does.
     pub fn add_styled_line(
         &mut self,
         alloc: Global,
@@ -87,14 +87,14 @@ impl Page {
         line: &[u8],
     ) -> Result<(), AllocError> {
         self.add_spaces(indent)?;
-        self.add_cut(alloc, style, line, self.width.saturating_sub(indent))?;
+        self.add_text_cut_to_width(alloc, style, line, self.width.saturating_sub(indent))?;
         self.text.push(b'\n')?;
         Ok(())
     }
 
     /// Adds a text in a style, cut in the middle if it has more than `width` bytes, and returns how many bytes of it
     /// there are.
-    pub(crate) fn add_cut(
+    pub(crate) fn add_text_cut_to_width(
         &mut self,
         alloc: Global,
         style: Style,
@@ -102,22 +102,22 @@ impl Page {
         width: usize,
     ) -> Result<usize, AllocError> {
         if text.len() <= width {
-            self.add_styled(style, text)?;
+            self.add_styled_text(style, text)?;
             return Ok(text.len());
         }
-        let text = cut_in_middle(alloc, text, width)?;
-        self.add_styled(style, text.as_slice())?;
+        let text = cut_in_middle_if_too_long(alloc, text, width)?;
+        self.add_styled_text(style, text.as_slice())?;
         Ok(text.len())
     }
 
     /// Whether the words of a sentence fit on one line that is indented by `indent` spaces.
-    fn has_room(&self, indent: usize, sentence: &[u8]) -> bool {
+    fn fits_on_one_line(&self, indent: usize, sentence: &[u8]) -> bool {
         sentence.first() != Some(&b' ') && indent.saturating_add(sentence.len()) <= self.width
     }
 
     /// Adds a word of a sentence and returns the column after it. If the word does not fit, it begins a new line; if it
     /// is longer than a line, it is cut in the middle. `column` is 0 for the first word.
-    fn add_word(
+    fn add_wrapped_word(
         &mut self,
         alloc: Global,
         indent: usize,
@@ -134,13 +134,13 @@ impl Page {
             self.text.push(b'\n')?;
         }
         self.add_spaces(indent)?;
-        let word = cut_in_middle(alloc, word, self.width.saturating_sub(indent))?;
+        let word = cut_in_middle_if_too_long(alloc, word, self.width.saturating_sub(indent))?;
         self.text.extend_from_slice(word.as_slice())?;
         Ok(indent.saturating_add(word.len()).max(1))
     }
 
-    /// Adds the words of a sentence that does not fit on one line, as `add_words` does.
-    fn add_words_on_lines(
+    /// Adds the words of a sentence that does not fit on one line, as `add_sentence_with_indents` does.
+    fn add_sentence_on_several_lines(
         &mut self,
         alloc: Global,
         first: usize,
@@ -152,44 +152,44 @@ impl Page {
         for byte in sentence {
             if *byte == b' ' {
                 let indent = if column == 0 { first } else { later };
-                column = self.add_word(alloc, indent, column, word.as_slice())?;
+                column = self.add_wrapped_word(alloc, indent, column, word.as_slice())?;
                 word.clear();
             } else {
                 word.push(*byte)?;
             }
         }
         let indent = if column == 0 { first } else { later };
-        self.add_word(alloc, indent, column, word.as_slice())?;
+        self.add_wrapped_word(alloc, indent, column, word.as_slice())?;
         self.text.push(b'\n')?;
         Ok(())
     }
 
     /// Adds the words of a sentence, with a new line before each that does not fit. The first line is indented by
     /// `first` spaces and the others by `later`.
-    fn add_words(
+    fn add_sentence_with_indents(
         &mut self,
         alloc: Global,
         first: usize,
         later: usize,
         sentence: &[u8],
     ) -> Result<(), AllocError> {
-        if self.has_room(first, sentence) {
+        if self.fits_on_one_line(first, sentence) {
             self.add_spaces(first)?;
             self.text.extend_from_slice(sentence)?;
             self.text.push(b'\n')?;
             return Ok(());
         }
-        self.add_words_on_lines(alloc, first, later, sentence)
+        self.add_sentence_on_several_lines(alloc, first, later, sentence)
     }
 
     /// Adds a sentence that is indented by `indent` spaces, with a new line before each word that does not fit.
-    pub fn add_sentence(
+    pub fn add_wrapped_sentence(
         &mut self,
         alloc: Global,
         indent: usize,
         sentence: &[u8],
     ) -> Result<(), AllocError> {
-        self.add_words(alloc, indent, indent, sentence)
+        self.add_sentence_with_indents(alloc, indent, indent, sentence)
     }
 
     /// Adds a heading in a style. Its lines after the first are indented by two spaces.
@@ -199,16 +199,16 @@ impl Page {
         style: Style,
         heading: &[u8],
     ) -> Result<(), AllocError> {
-        if self.has_room(0, heading) {
-            self.add_styled(style, heading)?;
+        if self.fits_on_one_line(0, heading) {
+            self.add_styled_text(style, heading)?;
             self.text.push(b'\n')?;
             return Ok(());
         }
         let mut lines = Page::new(alloc, self.width);
-        lines.add_words(alloc, 0, 2, heading)?;
+        lines.add_sentence_with_indents(alloc, 0, 2, heading)?;
         let mut text = lines.into_text();
         let _line_end = text.pop();
-        self.add_styled(style, text.as_slice())?;
+        self.add_styled_text(style, text.as_slice())?;
         self.text.push(b'\n')?;
         Ok(())
     }

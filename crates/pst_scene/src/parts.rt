@@ -7,7 +7,9 @@ ghost use Rattle.pst_operators.specs.Outcome.{Faults, Stuck};
 ghost use Rattle.pst_scene.specs.Parts as spec;
 ghost use Rattle.pst_scene.specs.Parts.{Decides, HasNoDecidingPart, HasNoFault, and_or, evaluated_operands, referred};
 
-use crate::attempt::{Tried, TriedAll, references, try_evaluate, try_evaluate_each};
+use crate::attempt::{
+    Tried, TriedAll, evaluate_references_in_turn, expression_references, try_evaluate,
+};
 use pst_eval::{Context, Env};
 use pst_model::Expr;
 use pst_value::{Boxed, Fault, Value};
@@ -17,7 +19,7 @@ use std::alloc::{AllocError, Global};
 type DecidingPart<'a> = Option<(&'a Expr, u32)>;
 
 /// The test of an `if` if it faults, or else the chosen branch.
-fn deciding_part_of_if<'a>(
+fn faulty_test_or_chosen_branch<'a>(
     test: &'a Boxed<Expr>,
     then: &'a Boxed<Expr>,
     other: &'a Boxed<Expr>,
@@ -56,7 +58,7 @@ fn fault_of_operand(
 
 /// The operand of an `and` or an `or` that faults. The second operand is evaluated if the first gives `goes_on`: true
 /// in an `and`, and false in an `or`.
-fn faulty_part_of_and_or<'a>(
+fn faulty_operand_of_and_or<'a>(
     goes_on: bool,
     first: &'a Boxed<Expr>,
     second: &'a Boxed<Expr>,
@@ -90,11 +92,11 @@ fn operands<'a>(alloc: Global, expr: &'a Expr) -> Result<Vec<&'a Expr>, AllocErr
     match expr {
         Expr::Unary(_, operand) => Ok(vec![in alloc; operand.get()]?),
         Expr::Binary(_, first, second) => Ok(vec![in alloc; first.get(), second.get()]?),
-        Expr::Tuple(parts) => references(alloc, parts.as_slice()),
+        Expr::Tuple(parts) => expression_references(alloc, parts.as_slice()),
         Expr::At(tuple, _) => Ok(vec![in alloc; tuple.get()]?),
-        Expr::List(_, items) => references(alloc, items.as_slice()),
+        Expr::List(_, items) => expression_references(alloc, items.as_slice()),
         Expr::Put(map, key, value) => Ok(vec![in alloc; map.get(), key.get(), value.get()]?),
-        Expr::Call(_, arguments) => references(alloc, arguments.as_slice()),
+        Expr::Call(_, arguments) => expression_references(alloc, arguments.as_slice()),
         _ => Ok(Vec::new(alloc)),
     }
 }
@@ -111,7 +113,7 @@ fn faulty_operand<'a>(
         (λ p. Decides context.now expr.now (env_of env.now) turns p.0.now p.1)) }
 {
     let operands = operands(context.alloc, expr)?;
-    match try_evaluate_each(operands.as_slice(), context, env, turns)? {
+    match evaluate_references_in_turn(operands.as_slice(), context, env, turns)? {
         TriedAll::Faults(operand, left, _) => Ok(Some((operand, left))),
         _ => Ok(None),
     }
@@ -119,7 +121,7 @@ fn faulty_operand<'a>(
 
 /// The part of an expression that has the outcome of the whole: the first that faults, or the chosen branch of an `if`.
 /// `None` if there is no such part, and of forms that bind names or apply a function.
-pub fn deciding_part<'a>(
+pub fn faulty_operand_or_chosen_branch<'a>(
     expr: &'a Expr,
     context: &Context<'_>,
     env: &Env<'_>,
@@ -130,9 +132,15 @@ pub fn deciding_part<'a>(
         (λ p. Decides context.now expr.now (env_of env.now) turns p.0.now p.1)) }
 {
     match expr {
-        Expr::If(test, then, other) => deciding_part_of_if(test, then, other, context, env, turns),
-        Expr::And(first, second) => faulty_part_of_and_or(true, first, second, context, env, turns),
-        Expr::Or(first, second) => faulty_part_of_and_or(false, first, second, context, env, turns),
+        Expr::If(test, then, other) => faulty_test_or_chosen_branch(
+            test, then, other, context, env, turns,
+        ),
+        Expr::And(first, second) => faulty_operand_of_and_or(
+            true, first, second, context, env, turns,
+        ),
+        Expr::Or(first, second) => faulty_operand_of_and_or(
+            false, first, second, context, env, turns,
+        ),
         _ => faulty_operand(expr, context, env, turns),
     }
 }

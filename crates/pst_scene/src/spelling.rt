@@ -52,7 +52,7 @@ fn add_map_key_spelling(out: &mut Vec<u8>, alloc: Global, key: &Key) -> Result<(
 }
 
 /// Adds the name of an operation, by its number from 0.
-pub fn add_operation_name(
+pub fn add_operation_name_if_known(
     out: &mut Vec<u8>,
     model: &Source,
     number: u32,
@@ -102,7 +102,7 @@ pub fn add_value_spelling(
         }
         Value::Call(operation, args) => {
             add_str(out, "(")?;
-            add_operation_name(out, model, *operation)?;
+            add_operation_name_if_known(out, model, *operation)?;
             add_value_spellings_and_bracket(out, alloc, model, args.as_slice())
         }
     }
@@ -155,7 +155,7 @@ pub fn add_command_spelling(
     command: &Command,
 ) -> Result<(), AllocError> {
     add_str(out, "(")?;
-    add_operation_name(out, model, command.op)?;
+    add_operation_name_if_known(out, model, command.op)?;
     add_value_spellings_and_bracket(out, alloc, model, command.args.as_slice())
 }
 

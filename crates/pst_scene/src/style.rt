@@ -16,7 +16,7 @@ pub(crate) const END: &str = "\x1b[0m";
 
 impl Style {
     /// What begins a text, which `END` ends; nothing if it is plain.
-    pub(crate) fn start(self) -> Option<&'static str> {
+    pub(crate) fn terminal_start_code(self) -> Option<&'static str> {
         match self {
             Style::Plain => None,
             Style::Wrong => Some("\x1b[31m"),

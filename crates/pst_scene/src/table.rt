@@ -142,7 +142,7 @@ fn add_cell_text(
     width: usize,
 ) -> Result<usize, AllocError> {
     page.add_spaces(gap)?;
-    page.add_cut(alloc, style, text, width)
+    page.add_text_cut_to_width(alloc, style, text, width)
 }
 
 impl Table {
@@ -224,21 +224,26 @@ impl Table {
     }
 
     /// Adds the rows to a page in columns if these are wide enough, or else each cell on a line of its own.
-    pub fn write_or_stack(
+    pub fn write_in_columns_or_stacked(
         &self,
         page: &mut Page,
         alloc: Global,
         indent: usize,
     ) -> Result<(), AllocError> {
         if self.has_wide_enough_columns(page, indent, LEAST_COLUMN) {
-            self.write(page, alloc, indent)
+            self.write_in_columns_cut_to_fit(page, alloc, indent)
         } else {
             self.write_stacked(page, alloc, indent)
         }
     }
 
     /// Adds the rows to a page in columns. Cells that do not fit are cut in the middle.
-    pub fn write(&self, page: &mut Page, alloc: Global, indent: usize) -> Result<(), AllocError> {
+    pub fn write_in_columns_cut_to_fit(
+        &self,
+        page: &mut Page,
+        alloc: Global,
+        indent: usize,
+    ) -> Result<(), AllocError> {
         let widths = self.widths.as_slice();
         let room = room_for_table_columns(page, indent, widths.len());
         if sum_of_widths(widths) <= room {

@@ -1,13 +1,13 @@
 //! The states of a run, and its preconditions, by plain evaluation.
 
 use crate::calls::Call;
-use crate::evaluating::evaluate;
+use crate::evaluating::evaluate_expression_of_model;
 use crate::order::{calls_in_interleaving_order, count_calls_before_number, first_calls};
 use crate::scene::Scene;
 use crate::texts::operation_of_call;
 use pst_case::Reply;
 use pst_eval::Env;
-use pst_model::{Expr, initial_state_of};
+use pst_model::{Expr, find_initial_state_expression};
 use pst_operators::Stop;
 use pst_value::{Boxed, Fault, Items, Value};
 use std::alloc::{AllocError, Global};
@@ -25,7 +25,7 @@ pub enum PreAnswer {
 }
 
 /// Returns the arguments of a command, with recorded results for variables.
-pub fn recorded_arguments(
+pub fn arguments_with_recorded_results(
     alloc: Global,
     scene: &Scene<'_>,
     call: &Call<'_>,
@@ -38,7 +38,7 @@ pub fn recorded_arguments(
 }
 
 /// Returns the reference to the result of a command, or its variable if no result was recorded.
-pub fn reference_to_result(alloc: Global, call: &Call<'_>) -> Result<Value, AllocError> {
+pub fn result_reference_or_variable(alloc: Global, call: &Call<'_>) -> Result<Value, AllocError> {
     match call.reply {
         Some(Reply::Value(value)) => Ok(Value::Ref(
             call.number,
@@ -49,10 +49,18 @@ pub fn reference_to_result(alloc: Global, call: &Call<'_>) -> Result<Value, Allo
 }
 
 /// Returns the initial state. `None` if the model gives none, or `init` cannot be evaluated.
-pub fn initial_state(alloc: Global, scene: &Scene<'_>) -> Result<Option<Value>, AllocError> {
-    match initial_state_of(scene.model.items.as_slice()) {
+pub fn evaluate_initial_state(
+    alloc: Global,
+    scene: &Scene<'_>,
+) -> Result<Option<Value>, AllocError> {
+    match find_initial_state_expression(scene.model.items.as_slice()) {
         Some(opening) => {
-            let outcome = evaluate(alloc, scene.model, opening, &Env::Frame(&[], &[]))?;
+            let outcome = evaluate_expression_of_model(
+                alloc,
+                scene.model,
+                opening,
+                &Env::Frame(&[], &[]),
+            )?;
             Ok(outcome.ok())
         }
         None => Ok(None),
@@ -69,18 +77,18 @@ pub fn state_after_call(
     let Some(operation) = operation_of_call(scene, call) else {
         return Ok(None);
     };
-    let args = recorded_arguments(alloc, scene, call)?;
-    let result = reference_to_result(alloc, call)?;
+    let args = arguments_with_recorded_results(alloc, scene, call)?;
+    let result = result_reference_or_variable(alloc, call)?;
     let frame = Env::Frame(operation.params.as_slice(), args.as_slice());
     let outer = Env::With(b"s", &*state, &frame);
     let inner = Env::With(b"r", &result, &outer);
-    let outcome = evaluate(alloc, scene.model, &operation.next, &inner)?;
+    let outcome = evaluate_expression_of_model(alloc, scene.model, &operation.next, &inner)?;
     Ok(outcome.ok())
 }
 
 /// Moves `state` to the end of `states` and puts the state after a command in its place. Leaves both and returns
 /// `false` if the callback faults.
-fn advance_state(
+fn record_state_and_try_to_advance(
     alloc: Global,
     scene: &Scene<'_>,
     states: &mut Vec<Value>,
@@ -95,7 +103,7 @@ fn advance_state(
 }
 
 /// Adds `first` and the state after each command in turn from it, up to the first callback that faults.
-fn add_states_along_calls(
+fn add_states_until_callback_faults(
     alloc: Global,
     scene: &Scene<'_>,
     states: &mut Vec<Value>,
@@ -104,7 +112,7 @@ fn add_states_along_calls(
 ) -> Result<(), AllocError> {
     let mut state = first;
     for call in calls {
-        if !advance_state(alloc, scene, states, &mut state, call)? {
+        if !record_state_and_try_to_advance(alloc, scene, states, &mut state, call)? {
             break;
         }
     }
@@ -119,32 +127,32 @@ pub fn states_along_calls(
     calls: &[Call<'_>],
 ) -> Result<Vec<Value>, AllocError> {
     let mut states = Vec::new(alloc);
-    if let Some(first) = initial_state(alloc, scene)? {
-        add_states_along_calls(alloc, scene, &mut states, first, calls)?;
+    if let Some(first) = evaluate_initial_state(alloc, scene)? {
+        add_states_until_callback_faults(alloc, scene, &mut states, first, calls)?;
     }
     Ok(states)
 }
 
-/// Returns the commands before `call` in the interleaving `word`.
+/// Returns the commands before `call` in the interleaving `interleaving`.
 pub fn calls_before_call_in_interleaving<'a>(
     alloc: Global,
     scene: &Scene<'a>,
-    word: &[usize],
+    interleaving: &[usize],
     call: &Call<'_>,
 ) -> Result<Vec<Call<'a>>, AllocError> {
-    let order = calls_in_interleaving_order(alloc, &scene.calls, word)?;
+    let order = calls_in_interleaving_order(alloc, &scene.calls, interleaving)?;
     let count = count_calls_before_number(order.as_slice(), call.number);
     first_calls(alloc, order.as_slice(), count)
 }
 
-/// Returns the state before `call` in the interleaving `word`. `None` if a callback faults before it.
+/// Returns the state before `call` in the interleaving `interleaving`. `None` if a callback faults before it.
 pub fn state_before_call_in_interleaving(
     alloc: Global,
     scene: &Scene<'_>,
-    word: &[usize],
+    interleaving: &[usize],
     call: &Call<'_>,
 ) -> Result<Option<Value>, AllocError> {
-    let before = calls_before_call_in_interleaving(alloc, scene, word, call)?;
+    let before = calls_before_call_in_interleaving(alloc, scene, interleaving, call)?;
     let mut states = states_along_calls(alloc, scene, before.as_slice())?;
     if states.len() <= before.len() {
         return Ok(None);
@@ -153,7 +161,7 @@ pub fn state_before_call_in_interleaving(
 }
 
 /// Returns the result of a precondition, by its value or why it has none.
-fn answer_of_precondition(outcome: &Result<Value, Stop>) -> PreAnswer {
+fn classify_precondition_outcome(outcome: &Result<Value, Stop>) -> PreAnswer {
     match outcome {
         Ok(Value::Bool(false)) => PreAnswer::Fails,
         Err(Stop::Fault(fault)) => PreAnswer::Faults(*fault),
@@ -174,9 +182,9 @@ pub fn evaluate_precondition(
     if let Expr::Bool(true) = operation.pre {
         return Ok(PreAnswer::Holds);
     }
-    let args = recorded_arguments(alloc, scene, call)?;
+    let args = arguments_with_recorded_results(alloc, scene, call)?;
     let frame = Env::Frame(operation.params.as_slice(), args.as_slice());
     let env = Env::With(b"s", &*state, &frame);
-    let outcome = evaluate(alloc, scene.model, &operation.pre, &env)?;
-    Ok(answer_of_precondition(&outcome))
+    let outcome = evaluate_expression_of_model(alloc, scene.model, &operation.pre, &env)?;
+    Ok(classify_precondition_outcome(&outcome))
 }

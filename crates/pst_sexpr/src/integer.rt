@@ -32,7 +32,7 @@ pub fn are_digits(bytes: &[u8]) -> bool
 }
 
 #[tactic(auto, unfolding(crate::specs::Integers::is_integer))]
-fn are_integer(bytes: &[u8]) -> bool
+fn bytes_spell_integer(bytes: &[u8]) -> bool
     ensures { result ≡ spec.is_integer bytes.now }
 {
     match bytes {
@@ -49,11 +49,11 @@ fn are_integer(bytes: &[u8]) -> bool
 pub fn is_integer(word: &Text) -> bool
     ensures { result ≡ spec.is_integer word.now }
 {
-    are_integer(word.as_bytes())
+    bytes_spell_integer(word.as_bytes())
 }
 
 /// The number with one more digit, if it has at most 64 bits.
-fn with_digit(number: u64, digit: u8) -> Option<u64>
+fn append_decimal_digit(number: u64, digit: u8) -> Option<u64>
     ensures { result ≡ spec.in_u64 (number * 10 + (digit - 48)) }
 {
     number
@@ -67,18 +67,18 @@ pub fn magnitude_of(digits: &[u8]) -> Option<u64>
 {
     let mut number = 0;
     for digit in digits {
-        number = with_digit(number, *digit)?;
+        number = append_decimal_digit(number, *digit)?;
     }
     Some(number)
 }
 
-fn positive(number: u64) -> Option<i64>
+fn as_positive_integer(number: u64) -> Option<i64>
     ensures { result ≡ spec.in_i64 (pos number) }
 {
     i64::try_from(number).ok()
 }
 
-fn negative(number: u64) -> Option<i64>
+fn as_negative_integer(number: u64) -> Option<i64>
     ensures { result ≡ spec.in_i64 (spec.negative number) }
 {
     0i64.checked_sub_unsigned(number)
@@ -86,15 +86,15 @@ fn negative(number: u64) -> Option<i64>
 
 /// The integer that an integer word spells, or `None` if it has more than 64 bits.
 #[tactic(auto, unfolding(crate::specs::Integers::value))]
-pub fn value_of(word: &Text) -> Option<i64>
+pub fn value_of_integer_word(word: &Text) -> Option<i64>
     ensures { result ≡ spec.in_i64 (spec.value word.now) }
 {
     match word.as_bytes() {
         [] => Some(0),
         [first, digits @ ..] => if *first == b'-' {
-            negative(magnitude_of(digits)?)
+            as_negative_integer(magnitude_of(digits)?)
         } else {
-            positive(magnitude_of(word.as_bytes())?)
+            as_positive_integer(magnitude_of(word.as_bytes())?)
         },
     }
 }
@@ -105,7 +105,7 @@ pub fn integer_of(word: &Text) -> Option<i64>
     ensures { result ≡ spec.integer_of word.now }
 {
     if is_integer(word) {
-        value_of(word)
+        value_of_integer_word(word)
     } else {
         None
     }

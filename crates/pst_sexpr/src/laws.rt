@@ -6,25 +6,25 @@ ghost use Rattle.pst_sexpr.specs.declared.form.Form.{Form};
 ghost use Rattle.pst_sexpr.specs.Reading.{max_bytes, Spells, IsFault};
 
 /// Bytes spell one list of trees at most.
-pub fn one_reading()
+pub fn bytes_have_one_reading()
     ensures { (bytes : List ℕ) (trees others : List Form) →
         Spells bytes trees → Spells bytes others → trees ≡ others }
 {}
 
 /// Bytes have one fault at most.
-pub fn one_fault()
+pub fn bytes_have_one_fault()
     ensures { (bytes : List ℕ) (fault other : SexprFault) →
         IsFault bytes fault → IsFault bytes other → fault ≡ other }
 {}
 
 /// Bytes within the size spell trees or have a fault.
-pub fn trees_or_fault()
+pub fn bytes_have_trees_or_fault()
     ensures { (bytes : List ℕ) → length bytes ≤ max_bytes →
         ((trees : List Form) × Spells bytes trees) ⊎ ((fault : SexprFault) × IsFault bytes fault) }
 {}
 
 /// Bytes within the size never do both.
-pub fn trees_have_no_fault()
+pub fn bytes_with_trees_have_no_fault()
     ensures { (bytes : List ℕ) (trees : List Form) (fault : SexprFault) → length bytes ≤ max_bytes →
         Spells bytes trees → IsFault bytes fault → ⊥ }
 {}

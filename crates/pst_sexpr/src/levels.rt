@@ -51,7 +51,7 @@ impl Levels {
     }
 
     /// A list of no trees.
-    pub fn empty_list(&mut self, alloc: Global) -> Items<Form>
+    pub fn take_empty_list(&mut self, alloc: Global) -> Items<Form>
         ensures empty { result ≡ [] }
         ensures same { self.new ≡ self.old }
     {
@@ -65,7 +65,7 @@ impl Levels {
     }
 
     /// The list, in a block of memory that has no more room than it needs.
-    pub fn exact_list(
+    pub fn move_to_exact_list(
         &mut self,
         alloc: Global,
         list: Items<Form>,
@@ -104,7 +104,7 @@ impl Levels {
     }
 
     /// The place of the innermost node's bracket, if a node is open.
-    pub fn innermost(&self) -> Option<usize>
+    pub fn innermost_bracket_place(&self) -> Option<usize>
         ensures { MatchOption result (self.now ≡ [])
             (λ place. (level : Level) × (rest : List Level)
             × (self.now ≡ level ∷ rest) × (level.place ≡ place)) }

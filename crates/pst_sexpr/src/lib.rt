@@ -26,9 +26,9 @@ mod writer;
 
 pub use fault::{FaultKind, SexprFault};
 pub use form::Form;
-pub use integer::{are_digits, integer_of, is_integer, magnitude_of, value_of};
+pub use integer::{are_digits, integer_of, is_integer, magnitude_of, value_of_integer_word};
 pub use limits::{MAX_BYTES, MAX_LEVELS};
-pub use nodes::{headed, list_of, word};
+pub use nodes::{headed, list_of_one_form, word};
 pub use out::Out;
 pub use parts::{node_of, tree_in, word_of};
 pub use put::{put_all, put_each};

@@ -16,7 +16,7 @@ pub fn word(alloc: Global, text: &str) -> Result<Form, AllocError>
 }
 
 /// A list of one tree.
-pub fn list_of(alloc: Global, first: Form) -> Result<Items<Form>, AllocError>
+pub fn list_of_one_form(alloc: Global, first: Form) -> Result<Items<Form>, AllocError>
     ensures { IfOk result (λ forms. forms ≡ first ∷ []) }
 {
     let mut forms = Items::new(alloc);
@@ -28,7 +28,7 @@ pub fn list_of(alloc: Global, first: Form) -> Result<Items<Form>, AllocError>
 pub fn headed(alloc: Global, head: &str, parts: Items<Form>) -> Result<Form, AllocError>
     ensures { IfOk result (λ form. form ≡ headed head.now parts) }
 {
-    let mut all = list_of(alloc, word(alloc, head)?)?;
+    let mut all = list_of_one_form(alloc, word(alloc, head)?)?;
     all.append(parts)?;
     Ok(Form::Node(all))
 }

@@ -10,7 +10,7 @@ use crate::fault::{FaultKind, SexprFault};
 use crate::form::Form;
 use crate::levels::{Level, Levels};
 use crate::limits::MAX_LEVELS;
-use crate::spans::{span_of_text, span_of_word, with_ascii};
+use crate::spans::{append_ascii, leading_unescaped_text_bytes, leading_word_bytes};
 use pst_value::{Items, Text};
 use std::alloc::{AllocError, Global};
 use std::mem;
@@ -77,7 +77,7 @@ impl Scanner {
                 place,
             });
         }
-        let inner = self.nodes.empty_list(alloc);
+        let inner = self.nodes.take_empty_list(alloc);
         let done = mem::replace(&mut self.done, inner);
         self.nodes.push(Level { place, done })?;
         Ok(())
@@ -94,7 +94,7 @@ impl Scanner {
             }),
             Some(level) => {
                 let inner = mem::replace(&mut self.done, level.done);
-                let parts = self.nodes.exact_list(alloc, inner)?;
+                let parts = self.nodes.move_to_exact_list(alloc, inner)?;
                 self.done.push(Form::Node(parts))?;
                 Ok(())
             }
@@ -203,7 +203,7 @@ impl Scanner {
     }
 
     /// Reads the byte at the place.
-    fn step(&mut self, alloc: Global, place: usize, byte: u8) -> Result<(), SexprFault>
+    fn read_byte(&mut self, alloc: Global, place: usize, byte: u8) -> Result<(), SexprFault>
         ensures { Gives (λ _. self.new) result (spec.step MAX_LEVELS self.old place byte) }
     {
         match self.mode {
@@ -225,8 +225,8 @@ impl Scanner {
         ensures front { IsSpanOf bytes.now result.now }
     {
         match self.mode {
-            Mode::Plain => span_of_word(bytes),
-            Mode::Quoted => span_of_text(bytes),
+            Mode::Plain => leading_word_bytes(bytes),
+            Mode::Quoted => leading_unescaped_text_bytes(bytes),
             Mode::Escaped | Mode::Comment => &[],
         }
     }
@@ -238,13 +238,18 @@ impl Scanner {
         ensures { OnOk result (self.new ≡ spec.with_part (self.old.part ++ span.now) self.old) }
     {
         let part = mem::replace(&mut self.part, Text::new(alloc));
-        self.part = with_ascii(alloc, part, span)?;
+        self.part = append_ascii(alloc, part, span)?;
         Ok(())
     }
 
     /// Reads the byte at `place` and all that follow it in the same word or text. Returns the place after them.
     #[tactic(auto, using(crate::proofs::Skips::reading))]
-    fn advance(&mut self, alloc: Global, bytes: &[u8], place: usize) -> Result<usize, SexprFault>
+    fn read_byte_or_rest_of_token(
+        &mut self,
+        alloc: Global,
+        bytes: &[u8],
+        place: usize,
+    ) -> Result<usize, SexprFault>
         requires { place < length bytes.now }
         ensures further { IfOk result (λ next. (place < next) × (next ≤ length bytes.now)) }
         ensures read { MatchResult result
@@ -255,7 +260,7 @@ impl Scanner {
     {
         let span = self.span(&bytes[place..]);
         if span.is_empty() {
-            self.step(alloc, place, bytes[place])?;
+            self.read_byte(alloc, place, bytes[place])?;
             return Ok(place + 1);
         }
         self.extend_token(alloc, span)?;
@@ -276,7 +281,7 @@ impl Scanner {
             Mode::Plain | Mode::Comment => {}
         }
         self.end_word(alloc)?;
-        if let Some(place) = self.nodes.innermost() {
+        if let Some(place) = self.nodes.innermost_bracket_place() {
             return Err(SexprFault {
                 kind: FaultKind::UnclosedNode,
                 place,
@@ -293,7 +298,7 @@ fn scan(alloc: Global, bytes: &[u8]) -> Result<Scanner, SexprFault>
     let mut scanner = Scanner::new(alloc);
     let mut place = 0;
     while place < bytes.len() {
-        place = scanner.advance(alloc, bytes, place)?;
+        place = scanner.read_byte_or_rest_of_token(alloc, bytes, place)?;
     }
     Ok(scanner)
 }

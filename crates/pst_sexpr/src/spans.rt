@@ -10,7 +10,7 @@ use pst_value::Text;
 use std::alloc::{AllocError, Global};
 
 /// The word bytes at the front of `bytes`.
-pub fn span_of_word(bytes: &[u8]) -> &[u8]
+pub fn leading_word_bytes(bytes: &[u8]) -> &[u8]
     ensures class { IsWordBytes result.now }
     ensures front { IsSpanOf bytes.now result.now }
 {
@@ -23,7 +23,7 @@ pub fn span_of_word(bytes: &[u8]) -> &[u8]
 }
 
 /// The bytes at the front of `bytes` that a text may hold unescaped.
-pub fn span_of_text(bytes: &[u8]) -> &[u8]
+pub fn leading_unescaped_text_bytes(bytes: &[u8]) -> &[u8]
     ensures class { ArePlain result.now }
     ensures front { IsSpanOf bytes.now result.now }
 {
@@ -36,7 +36,7 @@ pub fn span_of_text(bytes: &[u8]) -> &[u8]
 }
 
 /// Appends `more` to `text`. An empty text gets exactly the room that it needs.
-pub fn with_ascii(alloc: Global, text: Text, more: &[u8]) -> Result<Text, AllocError>
+pub fn append_ascii(alloc: Global, text: Text, more: &[u8]) -> Result<Text, AllocError>
     requires { IsAscii more.now }
     ensures { IfOk result (λ whole. whole ≡ text ++ more.now) }
 {

@@ -12,7 +12,7 @@ use crate::sink::{Sink, WriteFailed};
 use crate::tree::Tree;
 
 /// Writes a byte of a text.
-fn write_escaped<W: Sink>(byte: u8, sink: &mut W) -> Result<(), WriteFailed>
+fn write_byte_escaped_if_needed<W: Sink>(byte: u8, sink: &mut W) -> Result<(), WriteFailed>
     requires { W.broken sink.old ≡ false }
     ensures { Writes (W.taken sink.old) (W.taken sink.new) (W.broken sink.new) result (escaped byte) }
 {
@@ -24,19 +24,19 @@ fn write_escaped<W: Sink>(byte: u8, sink: &mut W) -> Result<(), WriteFailed>
 }
 
 /// Writes the escaped bytes between the quotes of a text.
-fn write_quoted<W: Sink>(bytes: &[u8], sink: &mut W) -> Result<(), WriteFailed>
+fn write_escaped_text_bytes<W: Sink>(bytes: &[u8], sink: &mut W) -> Result<(), WriteFailed>
     requires { W.broken sink.old ≡ false }
     ensures { Writes (W.taken sink.old) (W.taken sink.new) (W.broken sink.new) result (escape bytes.now) }
 {
     for byte in bytes {
-        write_escaped(*byte, sink)?;
+        write_byte_escaped_if_needed(*byte, sink)?;
     }
     Ok(())
 }
 
 /// Writes what separates a part of a node from the `parts` parts before it: a space, or nothing if `parts` is
 /// 0.
-fn write_gap<W: Sink>(parts: usize, sink: &mut W) -> Result<(), WriteFailed>
+fn write_space_unless_first<W: Sink>(parts: usize, sink: &mut W) -> Result<(), WriteFailed>
     requires { W.broken sink.old ≡ false }
     ensures { Writes (W.taken sink.old) (W.taken sink.new) (W.broken sink.new) result (gap parts) }
 {
@@ -57,12 +57,12 @@ fn write_form<W: Sink>(form: &Form, sink: &mut W) -> Result<(), WriteFailed>
         Form::Word(word) => put_all(word.as_bytes(), sink),
         Form::Text(text) => {
             put_all(b"\"", sink)?;
-            write_quoted(text.as_bytes(), sink)?;
+            write_escaped_text_bytes(text.as_bytes(), sink)?;
             put_all(b"\"", sink)
         }
         Form::Node(forms) => {
             put_all(b"(", sink)?;
-            write_spaced(forms.as_slice(), sink)?;
+            write_forms_with_spaces(forms.as_slice(), sink)?;
             put_all(b")", sink)
         }
     }
@@ -70,13 +70,13 @@ fn write_form<W: Sink>(form: &Form, sink: &mut W) -> Result<(), WriteFailed>
 
 /// Writes trees with a space between them.
 #[cycle(writing)]
-fn write_spaced<W: Sink>(forms: &[Form], sink: &mut W) -> Result<(), WriteFailed>
+fn write_forms_with_spaces<W: Sink>(forms: &[Form], sink: &mut W) -> Result<(), WriteFailed>
     requires { W.broken sink.old ≡ false }
     ensures { Writes (W.taken sink.old) (W.taken sink.new) (W.broken sink.new) result
         (spaced (map spelling forms.now)) }
 {
     for (place, form) in forms.iter().enumerate() {
-        write_gap(place, sink)?;
+        write_space_unless_first(place, sink)?;
         write_form(form, sink)?;
     }
     Ok(())

@@ -41,7 +41,7 @@ fn case_without_command(alloc: Global, case: &Case, number: u32) -> Result<Case,
 }
 
 /// The case with a command of a branch, which has the number, moved to the end of the prefix.
-fn case_with_command_moved(
+fn case_with_command_moved_to_prefix(
     alloc: Global,
     case: &Case,
     number: u32,
@@ -73,7 +73,7 @@ fn case_with_command_moved(
 }
 
 /// The cases without one command whose variable no command uses, by command number.
-fn cases_without_command(alloc: Global, case: &Case) -> Result<Items<Case>, AllocError>
+fn cases_without_one_unused_command(alloc: Global, case: &Case) -> Result<Items<Case>, AllocError>
     requires room { length (commands_of case.now) + 1 < 2 ^ 32 }
     ensures { IfOk result (λ all. all ≡ spec.drops case.now (length (commands_of case.now))) }
 {
@@ -88,7 +88,7 @@ fn cases_without_command(alloc: Global, case: &Case) -> Result<Items<Case>, Allo
 }
 
 /// The cases with the first command of one branch moved to the end of the prefix, branch by branch.
-fn cases_with_command_moved(alloc: Global, case: &Case) -> Result<Items<Case>, AllocError>
+fn cases_with_command_moved_to_prefix(alloc: Global, case: &Case) -> Result<Items<Case>, AllocError>
     requires room { length (commands_of case.now) + 1 < 2 ^ 32 }
     ensures { IfOk result
         (λ all. all ≡ spec.moves case.now (spec.first_of_branches case.now) case.now.branches) }
@@ -97,7 +97,7 @@ fn cases_with_command_moved(alloc: Global, case: &Case) -> Result<Items<Case>, A
     let mut first = case.prefix.len() as u32 + 1;
     for branch in case.branches.as_slice() {
         if let Some(command) = branch.as_slice().first() {
-            all.push(case_with_command_moved(alloc, case, first, command)?)?;
+            all.push(case_with_command_moved_to_prefix(alloc, case, first, command)?)?;
         }
         first += branch.len() as u32;
     }
@@ -112,7 +112,7 @@ pub fn candidates(alloc: Global, case: &Case) -> Result<Items<Case>, AllocError>
     requires room { length (commands_of case.now) + 1 < 2 ^ 32 }
     ensures { IfOk result (λ all. all ≡ spec.candidates case.now) }
 {
-    let mut all = cases_without_command(alloc, case)?;
-    all.append(cases_with_command_moved(alloc, case)?)?;
+    let mut all = cases_without_one_unused_command(alloc, case)?;
+    all.append(cases_with_command_moved_to_prefix(alloc, case)?)?;
     Ok(all)
 }

@@ -5,7 +5,7 @@ ghost use Rattle.pst_case.specs.Shape.{commands_of, joined};
 ghost use Rattle.pst_shrink.specs.Candidates.{command_uses, others, branch_others, is_used};
 ghost use Rattle.pst_shrink.specs.Number.{renumber_command};
 
-use pst_case::{Case, Command, joined_len, renumber_command};
+use pst_case::{Case, Command, count_commands_of_branches, renumber_command};
 use pst_value::Items;
 use std::alloc::{AllocError, Global};
 
@@ -15,7 +15,9 @@ pub(crate) fn count_case_commands(case: &Case) -> u32
     requires { length (commands_of case.now) < 2 ^ 32 }
     ensures { result ≡ length (commands_of case.now) }
 {
-    case.prefix.len() as u32 + joined_len(case.branches.as_slice()) + case.suffix.len() as u32
+    case.prefix.len() as u32
+        + count_commands_of_branches(case.branches.as_slice())
+        + case.suffix.len() as u32
 }
 
 fn command_uses_result(command: &Command, number: u32) -> bool

@@ -19,7 +19,7 @@ pub(crate) enum Round<H> {
 }
 
 /// Tries the candidates of a case in order, up to the first that breaks, and drives at most `limit` of them.
-pub(crate) fn try_shrink_candidates<A: Attempt>(
+pub(crate) fn try_candidates_until_one_breaks<A: Attempt>(
     alloc: Global,
     case: &Case,
     limit: u32,

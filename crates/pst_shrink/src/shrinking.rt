@@ -3,7 +3,7 @@ ghost use Rattle.std.specs.Prelude.{◌≡◌, ◌+◌, ◌^◌, ◌<◌, ◌≤
 ghost use Rattle.pst_shrink.specs.Weight.{weight};
 ghost use Rattle.pst_shrink.specs.Shrinking.{IsShrunk, FaultIsReal};
 
-use crate::round::{Round, try_shrink_candidates};
+use crate::round::{Round, try_candidates_until_one_breaks};
 use crate::{Attempt, FailingCase, ShrinkFault, Shrunk};
 use pst_case::Case;
 use pst_value::Items;
@@ -37,7 +37,7 @@ pub fn shrink<A: Attempt>(
     };
     let mut left = limit;
     'rounds: loop {
-        match try_shrink_candidates(alloc, &last.case, left, attempt)? {
+        match try_candidates_until_one_breaks(alloc, &last.case, left, attempt)? {
             Round::Took(next, rest) => {
                 before.push(last)?;
                 last = next;

@@ -1,5 +1,5 @@
 -- Where trees begin and end, byte after byte. The contracts of the functions that find trees cite it.
--- Those of `span_of` and `span_in` do not.
+-- Those of `span_at_path_or_whole_input` and `deepest_span_on_path_in_tree` do not.
 use Rattle.std.specs.Prelude.{◌≡◌, ℕ, suc, ◌-◌, ◌≤◌, Bool, true, false, ◌&&◌, ◌||◌, ◌==◌, if◌then◌else◌}
 use Rattle.std.specs.Prelude.{List, [], ◌∷◌, drop, length}
 use Rattle.pst_sexpr.specs.declared.form.Form.{Form}

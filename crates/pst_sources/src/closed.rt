@@ -1,7 +1,7 @@
 //! Finds the item that an extra `)` closed too early, and the word that heads an item of a file.
 
-use crate::open::file_word;
-use crate::scan::{skip_blank, tree_at};
+use crate::open::head_of_file_item;
+use crate::scan::{skip_blanks_and_comments, tree_at};
 use crate::span::Span;
 
 /// An item that is closed already.
@@ -14,20 +14,20 @@ pub struct ClosedItem {
 }
 
 /// Returns the word that heads the tree at `at`, if it is a model, a case or a run.
-fn head_at(input: &[u8], at: usize) -> Option<&'static str> {
+fn item_head_of_tree_at(input: &[u8], at: usize) -> Option<&'static str> {
     match input.get(at) {
-        Some(b'(') => file_word(input.get(at.saturating_add(1)..)?),
+        Some(b'(') => head_of_file_item(input.get(at.saturating_add(1)..)?),
         _ => None,
     }
 }
 
 /// Returns the word that heads the first tree of a file, if it is a model, a case or a run.
-pub fn first_item(input: &[u8]) -> Option<&'static str> {
-    head_at(input, skip_blank(input, 0))
+pub fn head_of_first_item(input: &[u8]) -> Option<&'static str> {
+    item_head_of_tree_at(input, skip_blanks_and_comments(input, 0))
 }
 
 /// Returns what messages call an item that the word `head` heads.
-fn item_noun(head: Option<&'static str>) -> &'static str {
+fn noun_for_item_head(head: Option<&'static str>) -> &'static str {
     match head {
         Some("model2") => "model",
         Some(word) => word,
@@ -37,7 +37,7 @@ fn item_noun(head: Option<&'static str>) -> &'static str {
 
 /// Returns the item that the extra `)` at `stray` was probably meant to close: the last model, case or run before it,
 /// or else the last tree before it.
-pub fn closed_item(input: &[u8], stray: usize) -> Option<ClosedItem> {
+pub fn item_closed_before_stray_bracket(input: &[u8], stray: usize) -> Option<ClosedItem> {
     let mut last = None;
     let mut item = None;
     let mut span = tree_at(input, 0);
@@ -45,10 +45,10 @@ pub fn closed_item(input: &[u8], stray: usize) -> Option<ClosedItem> {
         if span.start >= stray {
             break;
         }
-        let head = head_at(input, span.start);
+        let head = item_head_of_tree_at(input, span.start);
         last = Some(ClosedItem {
             span,
-            called: item_noun(head),
+            called: noun_for_item_head(head),
         });
         if head.is_some() {
             item = last;

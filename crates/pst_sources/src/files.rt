@@ -23,7 +23,7 @@ pub struct FilePlace {
 }
 
 /// Returns the text of an input: the bytes of its files in order, with a line end between two files.
-pub fn joined(alloc: Global, files: &[SourceFile<'_>]) -> Result<Vec<u8>, AllocError>
+pub fn joined_text_of_files(alloc: Global, files: &[SourceFile<'_>]) -> Result<Vec<u8>, AllocError>
     ensures { IfOk result (λ text. text.items ≡ text_of files.now) }
 {
     let mut text = Vec::new(alloc);
@@ -41,7 +41,7 @@ pub fn joined(alloc: Global, files: &[SourceFile<'_>]) -> Result<Vec<u8>, AllocE
 /// Returns the file that contains `place` of the joined text, and the place in this file. The line end between two
 /// files counts as the end of the first. `None` if the text ends before `place`, or there are no files.
 #[tactic(auto, using(crate::proofs::Places::starting))]
-pub fn locate(files: &[SourceFile<'_>], place: usize) -> Option<FilePlace>
+pub fn find_file_of_place(files: &[SourceFile<'_>], place: usize) -> Option<FilePlace>
     ensures { MatchOption result (length (text_of files.now) ≤ place) (IsPlaceIn files.now place) }
 {
     let mut rest = place;

@@ -11,7 +11,7 @@ use crate::scan::tree_at;
 use crate::span::Span;
 
 /// Returns the tree after the first `count` trees from `from` on.
-fn tree_after(input: &[u8], from: usize, count: usize) -> Span
+fn span_of_tree_after_count(input: &[u8], from: usize, count: usize) -> Span
     ensures within { IsWithin input.now result }
     ensures found { (trees : List Form) (tree : Form) → HasTreesFrom input.now from trees
         → slice_get trees count ≡ Some tree → HasTree input.now result tree }
@@ -24,18 +24,18 @@ fn tree_after(input: &[u8], from: usize, count: usize) -> Span
 }
 
 /// Returns tree `number`, from 0, of those that begin at `from` and end before a `)` or the end of the input.
-fn tree_numbered(input: &[u8], from: usize, number: usize) -> Option<Span>
+fn span_of_tree_numbered(input: &[u8], from: usize, number: usize) -> Option<Span>
     ensures within { MatchOption result (Unit {0}) (IsWithin input.now) }
     ensures found { (trees : List Form) (tree : Form) → HasTreesFrom input.now from trees
         → slice_get trees number ≡ Some tree → MatchOption result ⊥ (λ span. HasTree input.now span tree) }
 {
-    let span = tree_after(input, from, number);
+    let span = span_of_tree_after_count(input, from, number);
     let byte = *input.get(span.start)?;
     if byte == b')' { None } else { Some(span) }
 }
 
 /// Returns part `number`, from 0, of the node `tree`.
-fn part_of(input: &[u8], tree: Span, number: usize) -> Option<Span>
+fn span_of_node_part(input: &[u8], tree: Span, number: usize) -> Option<Span>
     ensures within { MatchOption result (Unit {0}) (IsWithin input.now) }
     ensures found { (node : Form) (parts : List Form) (part : Form) → HasTree input.now tree node
         → node_of node ≡ Some parts → slice_get parts number ≡ Some part
@@ -43,7 +43,7 @@ fn part_of(input: &[u8], tree: Span, number: usize) -> Option<Span>
 {
     let byte = *input.get(tree.start)?;
     if byte == b'(' {
-        tree_numbered(input, tree.start + 1, number)
+        span_of_tree_numbered(input, tree.start + 1, number)
     } else {
         None
     }
@@ -53,14 +53,14 @@ fn part_of(input: &[u8], tree: Span, number: usize) -> Option<Span>
 /// of a part of this part, and so on. If a part is missing, returns the bytes of the last tree on the path.
 ///
 /// `found` says this of bytes that spell one tree from the first byte on.
-pub fn span_in(input: &[u8], tree: Span, path: &[usize]) -> Span
+pub fn deepest_span_on_path_in_tree(input: &[u8], tree: Span, path: &[usize]) -> Span
     ensures within { IsWithin input.now tree → IsWithin input.now result }
     ensures found { (whole : Form) (part : Form) → HasTree input.now tree whole
         → tree_in path.now whole ≡ Some part → HasTree input.now result part }
 {
     let mut found = tree;
     for number in path {
-        let Some(part) = part_of(input, found, *number) else {
+        let Some(part) = span_of_node_part(input, found, *number) else {
             return found;
         };
         found = part;
@@ -69,10 +69,10 @@ pub fn span_in(input: &[u8], tree: Span, path: &[usize]) -> Span
 }
 
 /// Returns the bytes of the tree at `path`: the number of a tree of the file, from 0, and then a path in it,
-/// as for `span_in`. If the file has no such tree, returns all its bytes.
+/// as for `deepest_span_on_path_in_tree`. If the file has no such tree, returns all its bytes.
 ///
 /// `found` says this of every file that spells trees.
-pub fn span_of(input: &[u8], path: &[usize]) -> Span
+pub fn span_at_path_or_whole_input(input: &[u8], path: &[usize]) -> Span
     ensures within { IsWithin input.now result }
     ensures found { (trees : List Form) (tree : Form) → Spells input.now trees
         → paths.tree_at path.now trees ≡ Some tree → HasTree input.now result tree }
@@ -84,8 +84,8 @@ pub fn span_of(input: &[u8], path: &[usize]) -> Span
     let Some((first, rest)) = path.split_first() else {
         return all;
     };
-    match tree_numbered(input, 0, *first) {
-        Some(tree) => span_in(input, tree, rest),
+    match span_of_tree_numbered(input, 0, *first) {
+        Some(tree) => deepest_span_on_path_in_tree(input, tree, rest),
         None => all,
     }
 }

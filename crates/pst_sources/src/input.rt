@@ -2,12 +2,15 @@
 //!
 //! This module serves messages, which are tested and not proved.
 
-use crate::files::{FilePlace, SourceFile, locate};
-use crate::shown::{LineStart, Place, first_line, line_from, place_of, place_on};
+use crate::files::{FilePlace, SourceFile, find_file_of_place};
+use crate::shown::{
+    LineStart, Place, count_on_to_line_start, place_of_span, place_of_span_on_line,
+    start_of_first_line,
+};
 use crate::span::Span;
 use std::alloc::{AllocError, Global};
 
-/// An input: its files, and their text, as `joined` returns it.
+/// An input: its files, and their text, as `joined_text_of_files` returns it.
 #[derive(Clone, Copy, Drop)]
 pub struct Input<'a> {
     /// The files.
@@ -31,7 +34,7 @@ pub struct FilePart<'a> {
 
 /// The line of the last message on an input.
 #[derive(Clone, Copy, Debug, PartialEq, Eq, Drop)]
-pub struct LastLine {
+pub struct LastMessageLine {
     /// The number of its file, from 0.
     file: usize,
     /// The place of the message in the file.
@@ -40,23 +43,23 @@ pub struct LastLine {
     line: LineStart,
 }
 
-impl LastLine {
+impl LastMessageLine {
     /// The line before the first message.
-    pub fn none() -> LastLine {
-        LastLine {
+    pub fn none() -> LastMessageLine {
+        LastMessageLine {
             file: 0,
             place: 0,
-            line: first_line(),
+            line: start_of_first_line(),
         }
     }
 
     /// Returns the line of `part`. It counts on from the last line if that is earlier in the same file.
-    fn line_of(&self, part: &FilePart<'_>) -> LineStart {
+    fn line_start_of_part(&self, part: &FilePart<'_>) -> LineStart {
         let place = part.span.start;
         if self.file == part.number && self.place <= place {
-            line_from(part.bytes, self.line, self.place, place)
+            count_on_to_line_start(part.bytes, self.line, self.place, place)
         } else {
-            line_from(part.bytes, first_line(), 0, place)
+            count_on_to_line_start(part.bytes, start_of_first_line(), 0, place)
         }
     }
 }
@@ -64,7 +67,7 @@ impl LastLine {
 impl<'a> Input<'a> {
     /// Returns the file that contains the beginning of `span`, and the span in this file.
     pub fn part_at(&self, span: Span) -> FilePart<'a> {
-        if let Some(FilePlace { file, place }) = locate(self.files, span.start) {
+        if let Some(FilePlace { file, place }) = find_file_of_place(self.files, span.start) {
             let number = file;
             if let Some(file) = self.files.get(number) {
                 let length = span.end.saturating_sub(span.start);
@@ -87,8 +90,8 @@ impl<'a> Input<'a> {
 
     /// Returns the name of the file of `at`, if `other` is in another file.
     fn file_name_unless_same_file(&self, at: usize, other: usize) -> Option<&'a str> {
-        let found = locate(self.files, at)?;
-        let from = locate(self.files, other)?;
+        let found = find_file_of_place(self.files, at)?;
+        let from = find_file_of_place(self.files, other)?;
         if found.file == from.file {
             return None;
         }
@@ -97,14 +100,19 @@ impl<'a> Input<'a> {
     }
 
     /// Returns the line and the column of `at`.
-    fn shown_place(&self, alloc: Global, at: usize) -> Result<Place, AllocError> {
+    fn place_within_its_file(&self, alloc: Global, at: usize) -> Result<Place, AllocError> {
         let part = self.part_at(Span { start: at, end: at });
-        place_of(alloc, part.bytes, part.span)
+        place_of_span(alloc, part.bytes, part.span)
     }
 
     /// Returns the line of `at`, as `line 3`, or `line 3 of FILE` if `other` is in another file.
-    pub fn line_at(&self, alloc: Global, at: usize, other: usize) -> Result<String, AllocError> {
-        let line = self.shown_place(alloc, at)?.line;
+    pub fn line_with_file_unless_same(
+        &self,
+        alloc: Global,
+        at: usize,
+        other: usize,
+    ) -> Result<String, AllocError> {
+        let line = self.place_within_its_file(alloc, at)?.line;
         match self.file_name_unless_same_file(at, other) {
             Some(name) => format!(in alloc; "line {line} of {name}"),
             None => format!(in alloc; "line {line}"),
@@ -112,8 +120,13 @@ impl<'a> Input<'a> {
     }
 
     /// Returns the line and the column of `at`, as `3:7`, or `FILE:3:7` if `other` is in another file.
-    pub fn place_at(&self, alloc: Global, at: usize, other: usize) -> Result<String, AllocError> {
-        let Place { line, column, .. } = self.shown_place(alloc, at)?;
+    pub fn place_with_file_unless_same(
+        &self,
+        alloc: Global,
+        at: usize,
+        other: usize,
+    ) -> Result<String, AllocError> {
+        let Place { line, column, .. } = self.place_within_its_file(alloc, at)?;
         match self.file_name_unless_same_file(at, other) {
             Some(name) => format!(in alloc; "{name}:{line}:{column}"),
             None => format!(in alloc; "{line}:{column}"),
@@ -129,27 +142,27 @@ impl<'a> Input<'a> {
         what: &str,
         notes: &[String],
     ) -> Result<String, AllocError> {
-        self.next_message(alloc, &mut LastLine::none(), span, what, notes)
+        self.message_counting_on_from_last(alloc, &mut LastMessageLine::none(), span, what, notes)
     }
 
     /// Returns a message as `message` does, for one of several messages. It counts lines on from `last`, the line of
     /// the message before it, so messages in the order of their places take one pass over the input.
-    pub fn next_message(
+    pub fn message_counting_on_from_last(
         &self,
         alloc: Global,
-        last: &mut LastLine,
+        last: &mut LastMessageLine,
         span: Span,
         what: &str,
         notes: &[String],
     ) -> Result<String, AllocError> {
         let part = self.part_at(span);
-        let line = last.line_of(&part);
-        *last = LastLine {
+        let line = last.line_start_of_part(&part);
+        *last = LastMessageLine {
             file: part.number,
             place: part.span.start,
             line,
         };
-        let place = place_on(alloc, part.bytes, line, part.span)?;
+        let place = place_of_span_on_line(alloc, part.bytes, line, part.span)?;
         let file = part.name;
         let line = place.line;
         let column = place.column;

@@ -2,7 +2,7 @@
 //! trees: their bytes, their line and column, and the line as messages show it; and notices, which messages and warnings
 //! are made of.
 //!
-//! `span_of` and `span_in` find the bytes of the tree at a path. It is proved that they spell this tree.
+//! `span_at_path_or_whole_input` and `deepest_span_on_path_in_tree` find the bytes of the tree at a path. It is proved that they spell this tree.
 //! Messages themselves are tested and not proved.
 //!
 //! `AllocError` means that an allocation failed.
@@ -20,14 +20,19 @@ mod scan;
 mod shown;
 mod span;
 
-pub use chars::char_at;
-pub use closed::{ClosedItem, closed_item, first_item};
-pub use files::{FilePlace, SourceFile, joined, locate};
-pub use find::{span_in, span_of};
-pub use input::{FilePart, Input, LastLine};
-pub use laws::starts;
-pub use notice::{Notice, NoticePlace, Notices, notice_text, place_in, text_of};
-pub use open::{Unclosed, find_unclosed_item};
-pub use scan::{State, is_space, state_after, tree_at};
-pub use shown::{LineStart, Place, first_line, line_from, place_of, place_on};
+pub use chars::char_and_length_at;
+pub use closed::{ClosedItem, head_of_first_item, item_closed_before_stray_bracket};
+pub use files::{FilePlace, SourceFile, find_file_of_place, joined_text_of_files};
+pub use find::{deepest_span_on_path_in_tree, span_at_path_or_whole_input};
+pub use input::{FilePart, Input, LastMessageLine};
+pub use laws::files_start_in_joined_text;
+pub use notice::{
+    Notice, NoticePlace, Notices, notice_text, place_of_notice, text_of_notices_if_any,
+};
+pub use open::{Unclosed, find_probably_unclosed_item};
+pub use scan::{State, is_space, scan_state_after_byte, tree_at};
+pub use shown::{
+    LineStart, Place, count_on_to_line_start, place_of_span, place_of_span_on_line,
+    start_of_first_line,
+};
 pub use span::Span;

@@ -1,7 +1,7 @@
 //! The errors and warnings about an input.
 
-use crate::input::{Input, LastLine};
-use crate::shown::place_of;
+use crate::input::{Input, LastMessageLine};
+use crate::shown::place_of_span;
 use crate::span::Span;
 use std::alloc::{AllocError, Global};
 
@@ -62,13 +62,13 @@ pub struct NoticePlace<'a> {
 }
 
 /// The place of the bytes that `notice` is about.
-pub fn place_in<'a>(
+pub fn place_of_notice<'a>(
     alloc: Global,
     input: &Input<'a>,
     notice: &Notice,
 ) -> Result<NoticePlace<'a>, AllocError> {
     let part = input.part_at(notice.span);
-    let place = place_of(alloc, part.bytes, part.span)?;
+    let place = place_of_span(alloc, part.bytes, part.span)?;
     Ok(NoticePlace {
         file: part.name,
         line: place.line,
@@ -79,11 +79,11 @@ pub fn place_in<'a>(
 }
 
 /// Adds an error or a warning to `text`, with its place and the line that it is about.
-fn add_text(
+fn add_notice_text(
     alloc: Global,
     text: &mut String,
     input: &Input<'_>,
-    last: &mut LastLine,
+    last: &mut LastMessageLine,
     notice: &Notice,
 ) -> Result<(), AllocError> {
     let what = notice.what.as_str();
@@ -93,7 +93,13 @@ fn add_text(
         String::from_str(alloc, what)?
     };
     let notes = notice.notes.as_slice();
-    let message = input.next_message(alloc, last, notice.span, what.as_str(), notes)?;
+    let message = input.message_counting_on_from_last(
+        alloc,
+        last,
+        notice.span,
+        what.as_str(),
+        notes,
+    )?;
     text.push_str(message.as_str())?;
     text.push_str(notice.lines.as_str())
 }
@@ -105,20 +111,26 @@ pub fn notice_text(
     notice: &Notice,
 ) -> Result<String, AllocError> {
     let mut text = String::new(alloc);
-    add_text(alloc, &mut text, input, &mut LastLine::none(), notice)?;
+    add_notice_text(
+        alloc,
+        &mut text,
+        input,
+        &mut LastMessageLine::none(),
+        notice,
+    )?;
     Ok(text)
 }
 
 /// The text of all errors and warnings; `None` if it is empty.
-pub fn text_of(
+pub fn text_of_notices_if_any(
     alloc: Global,
     input: &Input<'_>,
     notices: &Notices,
 ) -> Result<Option<String>, AllocError> {
     let mut text = String::new(alloc);
-    let mut last = LastLine::none();
+    let mut last = LastMessageLine::none();
     for notice in &notices.all {
-        add_text(alloc, &mut text, input, &mut last, notice)?;
+        add_notice_text(alloc, &mut text, input, &mut last, notice)?;
     }
     text.push_str(notices.more.as_str())?;
     if text.is_empty() {

@@ -1,6 +1,6 @@
 //! Finds the item that is probably not closed if a `)` is missing.
 
-use crate::scan::{State, is_bracket, is_space, state_after};
+use crate::scan::{State, is_bracket, is_space, scan_state_after_byte};
 use crate::span::Span;
 
 /// An item that is probably not closed.
@@ -19,7 +19,7 @@ const OF_MODELS: [&str; 6] = ["state", "init", "command", "fun", "postfun", "op"
 const OF_FILES: [&str; 4] = ["model", "model2", "case", "run"];
 
 /// Returns whether `bytes` begins with `word`, followed by a byte that ends it or by nothing.
-fn begins_with(bytes: &[u8], word: &str) -> bool {
+fn begins_with_whole_word(bytes: &[u8], word: &str) -> bool {
     match bytes.strip_prefix(word.as_bytes()) {
         Some(rest) => match rest.first() {
             Some(byte) => is_space(*byte) || *byte == b'(' || *byte == b')',
@@ -30,9 +30,9 @@ fn begins_with(bytes: &[u8], word: &str) -> bool {
 }
 
 /// Returns the word that heads an item of a file, if `bytes` begins with one.
-pub(crate) fn file_word(bytes: &[u8]) -> Option<&'static str> {
+pub(crate) fn head_of_file_item(bytes: &[u8]) -> Option<&'static str> {
     for word in OF_FILES {
-        if begins_with(bytes, word) {
+        if begins_with_whole_word(bytes, word) {
             return Some(word);
         }
     }
@@ -41,12 +41,12 @@ pub(crate) fn file_word(bytes: &[u8]) -> Option<&'static str> {
 
 /// Returns the nesting level of an item: 0 for an item of a file, 1 for an item of a model. `bytes` follows its
 /// bracket. `None` if this is no item.
-fn level_of(bytes: &[u8]) -> Option<usize> {
-    if file_word(bytes).is_some() {
+fn item_level_by_head(bytes: &[u8]) -> Option<usize> {
+    if head_of_file_item(bytes).is_some() {
         return Some(0);
     }
     for word in OF_MODELS {
-        if begins_with(bytes, word) {
+        if begins_with_whole_word(bytes, word) {
             return Some(1);
         }
     }
@@ -54,7 +54,7 @@ fn level_of(bytes: &[u8]) -> Option<usize> {
 }
 
 /// Returns whether only white space is between `at` and the line end before it.
-fn begins_line(input: &[u8], at: usize) -> bool {
+fn is_first_on_its_line(input: &[u8], at: usize) -> bool {
     for back in 0..at.min(input.len()) {
         let before = at - 1 - back;
         match input.get(before) {
@@ -67,10 +67,10 @@ fn begins_line(input: &[u8], at: usize) -> bool {
 }
 
 /// Returns the level of the item whose bracket is at `at`, if it begins a line.
-fn item_level(input: &[u8], at: usize) -> Option<usize> {
+fn level_of_item_beginning_line(input: &[u8], at: usize) -> Option<usize> {
     let behind = input.get(at.saturating_add(1)..)?;
-    let level = level_of(behind)?;
-    if begins_line(input, at) {
+    let level = item_level_by_head(behind)?;
+    if is_first_on_its_line(input, at) {
         Some(level)
     } else {
         None
@@ -78,7 +78,7 @@ fn item_level(input: &[u8], at: usize) -> Option<usize> {
 }
 
 /// Returns the span of the bracket at `at`.
-fn bracket(at: usize) -> Span {
+fn span_of_bracket(at: usize) -> Span {
     Span {
         start: at,
         end: at.saturating_add(1),
@@ -87,19 +87,19 @@ fn bracket(at: usize) -> Span {
 
 /// Returns the item that is probably not closed. Only items that begin a line count. If one of them is nested deeper
 /// than its kind may be, this is the item before it; else it is the last item of all.
-pub fn find_unclosed_item(input: &[u8]) -> Option<Unclosed> {
+pub fn find_probably_unclosed_item(input: &[u8]) -> Option<Unclosed> {
     let mut state = State::Between;
     let mut depth: usize = 0;
     let mut last: Option<usize> = None;
     for at in 0..input.len() {
         let byte = input[at];
         if is_bracket(state, byte, b'(') {
-            let level = item_level(input, at);
+            let level = level_of_item_beginning_line(input, at);
             if let Some(level) = level {
                 if let (true, Some(item)) = (depth > level, last) {
                     return Some(Unclosed {
-                        item: bracket(item),
-                        next: Some(bracket(at)),
+                        item: span_of_bracket(item),
+                        next: Some(span_of_bracket(at)),
                     });
                 }
                 last = Some(at);
@@ -108,8 +108,8 @@ pub fn find_unclosed_item(input: &[u8]) -> Option<Unclosed> {
         } else if is_bracket(state, byte, b')') {
             depth = depth.saturating_sub(1);
         }
-        state = state_after(state, byte);
+        state = scan_state_after_byte(state, byte);
     }
-    let item = bracket(last?);
+    let item = span_of_bracket(last?);
     Some(Unclosed { item, next: None })
 }

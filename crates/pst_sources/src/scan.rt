@@ -30,7 +30,7 @@ pub fn is_space(byte: u8) -> bool
 
 /// Returns the state after `byte`, a byte outside of texts and comments.
 #[tactic(auto, unfolding(crate::specs::Scanning::outside))]
-fn state_after_outside_byte(byte: u8) -> State
+fn scan_state_after_byte_outside_texts(byte: u8) -> State
     ensures { result ≡ spec.outside byte }
 {
     if byte == b';' {
@@ -46,11 +46,11 @@ fn state_after_outside_byte(byte: u8) -> State
 
 /// Returns the state after `byte` in `state`.
 #[tactic(auto, unfolding(crate::specs::Scanning::after))]
-pub fn state_after(state: State, byte: u8) -> State
+pub fn scan_state_after_byte(state: State, byte: u8) -> State
     ensures { result ≡ spec.after state byte }
 {
     match state {
-        State::Between | State::Word => state_after_outside_byte(byte),
+        State::Between | State::Word => scan_state_after_byte_outside_texts(byte),
         State::Comment => {
             if byte == b'\n' {
                 State::Between
@@ -93,7 +93,7 @@ fn is_blank(state: State, byte: u8) -> bool
 
 /// Returns the place of the first tree from `from` on, or the end of the input.
 #[tactic(auto, using(crate::proofs::Counted::counted))]
-pub fn skip_blank(input: &[u8], from: usize) -> usize
+pub fn skip_blanks_and_comments(input: &[u8], from: usize) -> usize
     ensures within { result ≤ length input.now }
     ensures counted { from ≤ length input.now
         → result ≡ from + spec.blanks State.Between (drop from input.now) }
@@ -101,7 +101,7 @@ pub fn skip_blank(input: &[u8], from: usize) -> usize
     let mut state = State::Between;
     for at in from..input.len() {
         let byte = input[at];
-        state = state_after(state, byte);
+        state = scan_state_after_byte(state, byte);
         if !is_blank(state, byte) {
             return at;
         }
@@ -110,7 +110,7 @@ pub fn skip_blank(input: &[u8], from: usize) -> usize
 }
 
 /// Returns whether a byte after which the state is `state` is part of a word.
-fn is_word(state: State) -> bool
+fn is_state_in_word(state: State) -> bool
     ensures { result ≡ spec.is_word state }
 {
     matches!(state, State::Word)
@@ -123,7 +123,7 @@ fn word_end(input: &[u8], from: usize) -> usize
     ensures counted { from ≤ length input.now → result ≡ from + spec.word_bytes (drop from input.now) }
 {
     for at in from..input.len() {
-        if !is_word(state_after_outside_byte(input[at])) {
+        if !is_state_in_word(scan_state_after_byte_outside_texts(input[at])) {
             return at;
         }
     }
@@ -159,7 +159,7 @@ fn is_end(state: State, byte: u8, next: State) -> bool
 
 /// Returns the end of the text or node that begins at `from`, or the end of the input if it is not closed.
 #[tactic(auto, using(crate::proofs::Counted::counted))]
-fn closed_end(input: &[u8], from: usize) -> usize
+fn end_of_text_or_node(input: &[u8], from: usize) -> usize
     ensures within { result ≤ length input.now }
     ensures counted { from ≤ length input.now
         → result ≡ from + spec.closed_bytes State.Between 0 (drop from input.now) }
@@ -168,7 +168,7 @@ fn closed_end(input: &[u8], from: usize) -> usize
     let mut depth: usize = 0;
     for at in from..input.len() {
         let byte = input[at];
-        let next = state_after(state, byte);
+        let next = scan_state_after_byte(state, byte);
         depth = depth_after(state, depth, byte);
         if depth == 0 && is_end(state, byte, next) {
             return at + 1;
@@ -188,7 +188,7 @@ fn tree_end(input: &[u8], start: usize) -> usize
         return input.len();
     };
     if *byte == b'(' || *byte == b'"' {
-        closed_end(input, start)
+        end_of_text_or_node(input, start)
     } else if *byte == b')' {
         start + 1
     } else {
@@ -203,7 +203,7 @@ pub fn tree_at(input: &[u8], from: usize) -> Span
         → result.start ≡ from + spec.blanks State.Between (drop from input.now) }
     ensures end { result.end ≡ result.start + spec.tree_bytes (drop result.start input.now) }
 {
-    let start = skip_blank(input, from);
+    let start = skip_blanks_and_comments(input, from);
     Span {
         start,
         end: tree_end(input, start),

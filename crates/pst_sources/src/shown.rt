@@ -1,6 +1,6 @@
 //! The line of a place, as messages show it.
 
-use crate::chars::{char_start_from, shown_chars};
+use crate::chars::{char_start_at_or_after, chars_as_messages_show_them};
 use crate::span::Span;
 use std::alloc::{AllocError, Global};
 
@@ -33,13 +33,18 @@ pub struct LineStart {
 }
 
 /// The beginning of the first line.
-pub fn first_line() -> LineStart {
+pub fn start_of_first_line() -> LineStart {
     LineStart { line: 1, place: 0 }
 }
 
 /// Returns the beginning of the line of `place`. It counts on from `from`, an earlier place, whose line begins at
 /// `earlier`.
-pub fn line_from(input: &[u8], earlier: LineStart, from: usize, place: usize) -> LineStart {
+pub fn count_on_to_line_start(
+    input: &[u8],
+    earlier: LineStart,
+    from: usize,
+    place: usize,
+) -> LineStart {
     let mut found = earlier;
     for at in from..input.len() {
         if at >= place {
@@ -57,7 +62,7 @@ pub fn line_from(input: &[u8], earlier: LineStart, from: usize, place: usize) ->
 
 /// Returns the place of the next line end, or of the `\r` before it, or the end of the input. It reads at most `WIDTH`
 /// + 2 bytes, and returns the place after them if they contain no line end.
-fn shown_line_end(input: &[u8], from: usize) -> usize {
+fn line_end_within_shown_width(input: &[u8], from: usize) -> usize {
     let most = input.len().min(from.saturating_add(WIDTH + 2));
     let mut end = most;
     for at in from..most {
@@ -76,7 +81,11 @@ fn shown_line_end(input: &[u8], from: usize) -> usize {
 }
 
 /// Appends `mark` to `text` `count` times, but at most `2 * WIDTH` times.
-fn push_many(text: &mut String, mark: char, count: usize) -> Result<(), AllocError> {
+fn push_repeatedly_up_to_limit(
+    text: &mut String,
+    mark: char,
+    count: usize,
+) -> Result<(), AllocError> {
     for _ in 0..count.min(2 * WIDTH) {
         text.push(mark)?;
     }
@@ -85,23 +94,23 @@ fn push_many(text: &mut String, mark: char, count: usize) -> Result<(), AllocErr
 
 /// Returns the place of `span` with its line, which begins at `line`. If the line is longer than 80 bytes, only a part
 /// of it is displayed, with `...` where it is cut. A span of several lines is underlined to the end of the first.
-pub fn place_on(
+pub fn place_of_span_on_line(
     alloc: Global,
     input: &[u8],
     line: LineStart,
     span: Span,
 ) -> Result<Place, AllocError> {
     let begin = line.place;
-    let is_long = shown_line_end(input, begin).saturating_sub(begin) > WIDTH;
+    let is_long = line_end_within_shown_width(input, begin).saturating_sub(begin) > WIDTH;
     let offset = span.start.saturating_sub(begin);
     let from = if is_long && offset > BEFORE {
-        char_start_from(input, span.start.saturating_sub(BEFORE))
+        char_start_at_or_after(input, span.start.saturating_sub(BEFORE))
     } else {
         begin
     };
-    let end = shown_line_end(input, from);
+    let end = line_end_within_shown_width(input, from);
     let to = if is_long {
-        end.min(char_start_from(input, from.saturating_add(WIDTH)))
+        end.min(char_start_at_or_after(input, from.saturating_add(WIDTH)))
     } else {
         end
     };
@@ -111,14 +120,14 @@ pub fn place_on(
         text.push_str("...")?;
         marks.push_str("   ")?;
     }
-    text.push_str(shown_chars(alloc, input, from, to)?.as_str())?;
+    text.push_str(chars_as_messages_show_them(alloc, input, from, to)?.as_str())?;
     if to < end {
         text.push_str("...")?;
     }
-    let before = shown_chars(alloc, input, from, span.start)?;
-    push_many(&mut marks, ' ', before.chars().count())?;
-    let marked = shown_chars(alloc, input, span.start, span.end.min(to))?;
-    push_many(&mut marks, '^', marked.chars().count().max(1))?;
+    let before = chars_as_messages_show_them(alloc, input, from, span.start)?;
+    push_repeatedly_up_to_limit(&mut marks, ' ', before.chars().count())?;
+    let marked = chars_as_messages_show_them(alloc, input, span.start, span.end.min(to))?;
+    push_repeatedly_up_to_limit(&mut marks, '^', marked.chars().count().max(1))?;
     Ok(Place {
         line: line.line,
         column: offset.saturating_add(1),
@@ -127,8 +136,8 @@ pub fn place_on(
     })
 }
 
-/// Returns the place of `span` with its line, as `place_on` does.
-pub fn place_of(alloc: Global, input: &[u8], span: Span) -> Result<Place, AllocError> {
-    let line = line_from(input, first_line(), 0, span.start);
-    place_on(alloc, input, line, span)
+/// Returns the place of `span` with its line, as `place_of_span_on_line` does.
+pub fn place_of_span(alloc: Global, input: &[u8], span: Span) -> Result<Place, AllocError> {
+    let line = count_on_to_line_start(input, start_of_first_line(), 0, span.start);
+    place_of_span_on_line(alloc, input, line, span)
 }

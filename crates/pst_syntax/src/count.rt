@@ -10,7 +10,7 @@ use pst_sexpr::Form;
 /// enough.
 #[cycle(room)]
 #[tactic(auto, using(crate::proofs::Counted::counted))]
-pub fn room_after(form: &Form, room: usize) -> Option<usize>
+pub fn room_left_after_tree(form: &Form, room: usize) -> Option<usize>
     ensures { result ≡ spent (trees_in form.now) room }
 {
     if room == 0 {
@@ -18,17 +18,17 @@ pub fn room_after(form: &Form, room: usize) -> Option<usize>
     }
     match form {
         Form::Word(_) | Form::Text(_) => Some(room - 1),
-        Form::Node(parts) => room_after_all(parts.as_slice(), room - 1),
+        Form::Node(parts) => room_left_after_trees(parts.as_slice(), room - 1),
     }
 }
 
 #[cycle(room)]
-fn room_after_all(forms: &[Form], room: usize) -> Option<usize>
+fn room_left_after_trees(forms: &[Form], room: usize) -> Option<usize>
     ensures { result ≡ spent (sum (map trees_in forms.now)) room }
 {
     let mut room = room;
     for form in forms {
-        room = room_after(form, room)?;
+        room = room_left_after_tree(form, room)?;
     }
     Some(room)
 }

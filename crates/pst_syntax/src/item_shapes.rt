@@ -114,7 +114,7 @@ fn command_shape(parts: &[Form]) -> Option<ItemShape<'_>>
     Some(ItemShape::Command(calls))
 }
 
-fn item_headed<'a>(word: &str, parts: &'a [Form]) -> Option<ItemShape<'a>>
+fn item_shape_by_head<'a>(word: &str, parts: &'a [Form]) -> Option<ItemShape<'a>>
     ensures { shown_item_option result ≡ spec.item_headed word.now parts.now }
 {
     match word {
@@ -134,10 +134,10 @@ pub fn item_shape(form: &Form) -> Option<ItemShape<'_>>
     ensures { shown_item_option result ≡ spec.item_shape form.now }
 {
     let (first, parts) = node_of(form)?.split_first()?;
-    item_headed(word_of(first)?.as_str(), parts)
+    item_shape_by_head(word_of(first)?.as_str(), parts)
 }
 
-fn callback_headed<'a>(word: &str, body: &'a Form) -> Option<CallbackShape<'a>>
+fn callback_shape_by_head<'a>(word: &str, body: &'a Form) -> Option<CallbackShape<'a>>
     ensures { shown_callback_option result ≡ spec.callback_headed word.now body.now }
 {
     if word == "pre" {
@@ -159,7 +159,7 @@ pub fn callback_shape(form: &Form) -> Option<CallbackShape<'_>>
     let [first, body] = node_of(form)? else {
         return None;
     };
-    callback_headed(word_of(first)?.as_str(), body)
+    callback_shape_by_head(word_of(first)?.as_str(), body)
 }
 
 /// The name and the type of a parameter.
@@ -189,7 +189,7 @@ fn model_head_has_maps(word: &str) -> Option<bool>
     }
 }
 
-fn model_headed<'a>(word: &str, parts: &'a [Form]) -> Option<ModelShape<'a>>
+fn model_shape_by_head<'a>(word: &str, parts: &'a [Form]) -> Option<ModelShape<'a>>
     ensures { shown_model_option result ≡ spec.as_model word.now parts.now }
 {
     let (name, items) = parts.split_first()?;
@@ -208,5 +208,5 @@ pub fn model_shape(form: &Form) -> Option<ModelShape<'_>>
     ensures { shown_model_option result ≡ spec.model_shape form.now }
 {
     let (first, parts) = node_of(form)?.split_first()?;
-    model_headed(word_of(first)?.as_str(), parts)
+    model_shape_by_head(word_of(first)?.as_str(), parts)
 }

@@ -15,7 +15,7 @@ use crate::item_shapes::{
     param_shape,
 };
 use crate::limits::{MAX_DECLARED, MAX_EXPR_LEVELS, MAX_PARTS, MAX_TY_LEVELS};
-use crate::names::{copy_declared_name, is_name, is_unreserved_name};
+use crate::names::{check_and_copy_declared_name, is_name, is_unreserved_name};
 use crate::read::read_expr;
 use crate::types::read_ty;
 use pst_model::{Expr, Fun, Item, Op, Param};
@@ -24,20 +24,20 @@ use pst_value::{Boxed, Items, Text, Ty};
 use std::alloc::Global;
 
 /// Reads a type that is part of no other type.
-fn whole_ty(alloc: Global, has_maps: bool, form: &Form) -> Result<Ty, FaultKind>
+fn read_outermost_type(alloc: Global, has_maps: bool, form: &Form) -> Result<Ty, FaultKind>
     ensures { Gives result (spec.whole_ty has_maps form.now) }
 {
     read_ty(alloc, has_maps, form, MAX_TY_LEVELS)
 }
 
 /// Reads an expression that is part of no other expression.
-fn whole_expr(alloc: Global, has_maps: bool, form: &Form) -> Result<Expr, FaultKind>
+fn read_outermost_expression(alloc: Global, has_maps: bool, form: &Form) -> Result<Expr, FaultKind>
     ensures { Gives result (spec.whole_expr has_maps form.now) }
 {
     read_expr(alloc, has_maps, form, MAX_EXPR_LEVELS)
 }
 
-fn is_param(params: &[Param], word: &Text) -> bool
+fn declares_parameter(params: &[Param], word: &Text) -> bool
     ensures { result ≡ spec.is_param params.now word.now }
 {
     params
@@ -53,14 +53,14 @@ fn read_parameter_of_shape(
 ) -> Result<Param, FaultKind>
     ensures { Gives result (spec.param_of has_maps params.now (shown_param shape.now)) }
 {
-    let is_taken = is_param(params, shape.name);
-    let name = copy_declared_name(
+    let is_taken = declares_parameter(params, shape.name);
+    let name = check_and_copy_declared_name(
         alloc,
         is_unreserved_name(has_maps, shape.name),
         is_taken,
         shape.name,
     )?;
-    let ty = whole_ty(alloc, has_maps, shape.ty)?;
+    let ty = read_outermost_type(alloc, has_maps, shape.ty)?;
     Ok(Param { name, ty })
 }
 
@@ -101,7 +101,7 @@ pub struct Callbacks {
 }
 
 /// Reads the expression of a callback that may occur once. `is_taken` says whether it has occurred before.
-fn callback_body(
+fn read_callback_body_once(
     alloc: Global,
     has_maps: bool,
     is_taken: bool,
@@ -112,7 +112,7 @@ fn callback_body(
     if is_taken {
         return Err(FaultKind::DoubleName);
     }
-    Ok(Boxed::new(alloc, whole_expr(alloc, has_maps, body)?)?)
+    Ok(Boxed::new(alloc, read_outermost_expression(alloc, has_maps, body)?)?)
 }
 
 /// The callbacks, with one more.
@@ -127,22 +127,22 @@ fn add_callback_of_shape(
     let Callbacks { pre, next, post } = callbacks;
     match shape {
         CallbackShape::Pre(body) => {
-            let pre = Some(callback_body(alloc, has_maps, pre.is_some(), body)?);
+            let pre = Some(read_callback_body_once(alloc, has_maps, pre.is_some(), body)?);
             Ok(Callbacks { pre, next, post })
         }
         CallbackShape::Next(body) => {
-            let next = Some(callback_body(alloc, has_maps, next.is_some(), body)?);
+            let next = Some(read_callback_body_once(alloc, has_maps, next.is_some(), body)?);
             Ok(Callbacks { pre, next, post })
         }
         CallbackShape::Post(body) => {
-            let post = Some(callback_body(alloc, has_maps, post.is_some(), body)?);
+            let post = Some(read_callback_body_once(alloc, has_maps, post.is_some(), body)?);
             Ok(Callbacks { pre, next, post })
         }
     }
 }
 
 /// The callbacks, with the one that a tree spells.
-fn with_callback(
+fn read_and_add_callback(
     alloc: Global,
     has_maps: bool,
     callbacks: Callbacks,
@@ -165,7 +165,7 @@ fn read_callbacks(alloc: Global, has_maps: bool, forms: &[Form]) -> Result<Callb
         post: None,
     };
     for form in forms {
-        callbacks = with_callback(alloc, has_maps, callbacks, form)?;
+        callbacks = read_and_add_callback(alloc, has_maps, callbacks, form)?;
     }
     Ok(callbacks)
 }
@@ -179,7 +179,7 @@ struct AllCallbacks {
 }
 
 /// The callbacks, if none is missing.
-fn all_callbacks(callbacks: Callbacks) -> Option<AllCallbacks>
+fn all_callbacks_or_none(callbacks: Callbacks) -> Option<AllCallbacks>
     ensures { ok_or result Missing ≡ spec.all_callbacks callbacks }
 {
     let ((pre, next), post) = callbacks.pre.zip(callbacks.next).zip(callbacks.post)?;
@@ -191,10 +191,14 @@ fn all_callbacks(callbacks: Callbacks) -> Option<AllCallbacks>
 }
 
 /// The callbacks that trees spell, if none is missing.
-fn whole_callbacks(alloc: Global, has_maps: bool, forms: &[Form]) -> Result<AllCallbacks, FaultKind>
+fn read_all_callbacks(
+    alloc: Global,
+    has_maps: bool,
+    forms: &[Form],
+) -> Result<AllCallbacks, FaultKind>
     ensures { Gives result (spec.whole_callbacks has_maps forms.now) }
 {
-    all_callbacks(read_callbacks(alloc, has_maps, forms)?).ok_or(FaultKind::Missing)
+    all_callbacks_or_none(read_callbacks(alloc, has_maps, forms)?).ok_or(FaultKind::Missing)
 }
 
 /// Whether some item gives the type of the state: `(state ..)`.
@@ -218,7 +222,7 @@ pub fn has_command(items: &[Item]) -> bool
     items.iter().any(|item| matches!(item, Item::Command(_)))
 }
 
-fn is_fun_named(item: &Item, word: &Text) -> bool
+fn is_function_item_named(item: &Item, word: &Text) -> bool
     ensures { result ≡ spec.is_fun_named word.now item.now }
 {
     match item {
@@ -227,7 +231,7 @@ fn is_fun_named(item: &Item, word: &Text) -> bool
     }
 }
 
-fn is_op_named(item: &Item, word: &Text) -> bool
+fn is_operation_item_named(item: &Item, word: &Text) -> bool
     ensures { result ≡ spec.is_op_named word.now item.now }
 {
     match item {
@@ -236,20 +240,20 @@ fn is_op_named(item: &Item, word: &Text) -> bool
     }
 }
 
-fn has_fun(items: &[Item], word: &Text) -> bool
+fn declares_function(items: &[Item], word: &Text) -> bool
     ensures { result ≡ list_any (spec.is_fun_named word.now) items.now }
 {
-    items.iter().any(|item| is_fun_named(item, word))
+    items.iter().any(|item| is_function_item_named(item, word))
 }
 
-fn has_op(items: &[Item], word: &Text) -> bool
+fn declares_operation(items: &[Item], word: &Text) -> bool
     ensures { result ≡ list_any (spec.is_op_named word.now) items.now }
 {
-    items.iter().any(|item| is_op_named(item, word))
+    items.iter().any(|item| is_operation_item_named(item, word))
 }
 
 /// Whether one more function may come.
-fn has_fun_room(items: &[Item]) -> bool
+fn may_declare_function(items: &[Item]) -> bool
     ensures { result ≡ spec.has_room spec.is_fun items.now }
 {
     items
@@ -260,7 +264,7 @@ fn has_fun_room(items: &[Item]) -> bool
 }
 
 /// Whether one more operation may come.
-fn has_op_room(items: &[Item]) -> bool
+fn may_declare_operation(items: &[Item]) -> bool
     ensures { result ≡ spec.has_room spec.is_op items.now }
 {
     items
@@ -280,16 +284,16 @@ fn read_function(
         (spec.fun_of has_maps shape.now.is_post seen.now shape.now.name.now shape.now.params.now
         shape.now.result.now shape.now.body.now) }
 {
-    let is_taken = has_fun(seen, shape.name);
-    let name = copy_declared_name(
+    let is_taken = declares_function(seen, shape.name);
+    let name = check_and_copy_declared_name(
         alloc,
         is_unreserved_name(has_maps, shape.name),
         is_taken,
         shape.name,
     )?;
     let params = read_parameters(alloc, has_maps, shape.params)?;
-    let result = whole_ty(alloc, has_maps, shape.result)?;
-    let body = whole_expr(alloc, has_maps, shape.body)?;
+    let result = read_outermost_type(alloc, has_maps, shape.result)?;
+    let body = read_outermost_expression(alloc, has_maps, shape.body)?;
     Ok(Fun {
         is_post: shape.is_post,
         name,
@@ -309,11 +313,11 @@ fn read_operation(
         (spec.op_parts has_maps seen.now shape.now.name.now shape.now.params.now
         shape.now.result.now shape.now.callbacks.now) }
 {
-    let is_taken = has_op(seen, shape.name);
-    let name = copy_declared_name(alloc, is_name(shape.name), is_taken, shape.name)?;
+    let is_taken = declares_operation(seen, shape.name);
+    let name = check_and_copy_declared_name(alloc, is_name(shape.name), is_taken, shape.name)?;
     let params = read_parameters(alloc, has_maps, shape.params)?;
-    let result = whole_ty(alloc, has_maps, shape.result)?;
-    let AllCallbacks { pre, next, post } = whole_callbacks(alloc, has_maps, shape.callbacks)?;
+    let result = read_outermost_type(alloc, has_maps, shape.result)?;
+    let AllCallbacks { pre, next, post } = read_all_callbacks(alloc, has_maps, shape.callbacks)?;
     Ok(Op {
         name,
         params,
@@ -341,11 +345,15 @@ pub fn read_item(
         ItemShape::State(_) if has_state(seen) => Err(FaultKind::DoubleName),
         ItemShape::Init(_) if has_init(seen) => Err(FaultKind::DoubleName),
         ItemShape::Command(_) if has_command(seen) => Err(FaultKind::DoubleName),
-        ItemShape::Fun(_) if !has_fun_room(seen) => Err(FaultKind::OverLimit),
-        ItemShape::Op(_) if !has_op_room(seen) => Err(FaultKind::OverLimit),
-        ItemShape::State(ty) => Ok(Item::State(whole_ty(alloc, has_maps, ty)?)),
-        ItemShape::Init(value) => Ok(Item::Init(whole_expr(alloc, has_maps, value)?)),
-        ItemShape::Command(calls) => Ok(Item::Command(whole_expr(alloc, has_maps, calls)?)),
+        ItemShape::Fun(_) if !may_declare_function(seen) => Err(FaultKind::OverLimit),
+        ItemShape::Op(_) if !may_declare_operation(seen) => Err(FaultKind::OverLimit),
+        ItemShape::State(ty) => Ok(Item::State(read_outermost_type(alloc, has_maps, ty)?)),
+        ItemShape::Init(value) => Ok(Item::Init(read_outermost_expression(
+            alloc, has_maps, value,
+        )?)),
+        ItemShape::Command(calls) => Ok(Item::Command(read_outermost_expression(
+            alloc, has_maps, calls,
+        )?)),
         ItemShape::Fun(shape) => Ok(Item::Fun(read_function(alloc, has_maps, seen, &shape)?)),
         ItemShape::Op(shape) => Ok(Item::Op(read_operation(alloc, has_maps, seen, &shape)?)),
     }

@@ -26,18 +26,18 @@ pub fn plain_model_types_have_no_maps()
 {}
 
 /// An expression is refused by the first of its faults, and read if it has none.
-pub fn first_refusal_of_expr()
+pub fn expression_is_refused_by_first_fault()
     ensures { (has_maps : Bool) (room : ℕ) (form : Form) →
         refusal (expr_of has_maps room form) ≡ first (expr_faults has_maps room form) }
 {}
 
 /// A type is refused by the first of its faults, and read if it has none.
-pub fn first_refusal_of_ty()
+pub fn type_is_refused_by_first_fault()
     ensures { (has_maps : Bool) (room : ℕ) (form : Form) →
         refusal (ty_of has_maps room form) ≡ first (ty_faults has_maps room form) }
 {}
 
 /// A model is refused by the first of its faults, and read if it has none.
-pub fn first_refusal_of_model()
+pub fn model_is_refused_by_first_fault()
     ensures { (trees : List Form) → refusal (model_of trees) ≡ first (model_faults trees) }
 {}

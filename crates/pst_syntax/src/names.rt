@@ -29,7 +29,7 @@ fn all_name_bytes(bytes: &[u8]) -> bool
     bytes.iter().all(|byte| is_name_byte(*byte))
 }
 
-fn begins_name(bytes: &[u8]) -> bool
+fn bytes_are_name(bytes: &[u8]) -> bool
     ensures { result ≡ names.is_name bytes.now }
 {
     match bytes {
@@ -42,11 +42,11 @@ fn begins_name(bytes: &[u8]) -> bool
 pub fn is_name(word: &Text) -> bool
     ensures { result ≡ names.is_name word.now }
 {
-    begins_name(word.as_bytes())
+    bytes_are_name(word.as_bytes())
 }
 
 /// Whether a word has at most `MAX_NAME` bytes.
-pub fn is_short(word: &Text) -> bool
+pub fn is_within_name_length(word: &Text) -> bool
     ensures { result ≡ spec.is_short word.now }
 {
     word.len() <= MAX_NAME
@@ -79,7 +79,7 @@ pub fn is_unreserved_name(has_maps: bool, word: &Text) -> bool
 pub fn is_usable_name(has_maps: bool, word: &Text) -> bool
     ensures { result ≡ spec.is_used has_maps word.now }
 {
-    is_unreserved_name(has_maps, word) && is_short(word)
+    is_unreserved_name(has_maps, word) && is_within_name_length(word)
 }
 
 /// Whether a word may be used as the name of an operation.
@@ -87,7 +87,7 @@ pub fn is_usable_name(has_maps: bool, word: &Text) -> bool
 pub fn is_usable_operation_name(word: &Text) -> bool
     ensures { result ≡ spec.is_used_operation word.now }
 {
-    is_name(word) && is_short(word)
+    is_name(word) && is_within_name_length(word)
 }
 
 /// Copies a declared name. `is_lawful` says whether it is valid there, and `is_taken` whether it is taken.
@@ -95,7 +95,7 @@ pub fn is_usable_operation_name(word: &Text) -> bool
 /// `BadName`: it is not valid. `DoubleName`: it is taken. `OverLimit`: it has more than `MAX_NAME` bytes.
 /// `NoMemory`: an allocation failed; the other faults do not allocate.
 #[tactic(auto, unfolding(crate::specs::Reading::declared))]
-pub fn copy_declared_name(
+pub fn check_and_copy_declared_name(
     alloc: Global,
     is_lawful: bool,
     is_taken: bool,
@@ -111,7 +111,7 @@ pub fn copy_declared_name(
     if is_taken {
         return Err(FaultKind::DoubleName);
     }
-    if !is_short(word) {
+    if !is_within_name_length(word) {
         return Err(FaultKind::OverLimit);
     }
     Ok(word.copy(alloc)?)

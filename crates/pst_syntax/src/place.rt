@@ -18,7 +18,7 @@ fn is_nonzero(digits: &[u8]) -> bool
 }
 
 #[tactic(auto, unfolding(pst_sexpr::specs::Integers::value))]
-fn is_positive(word: &[u8]) -> bool
+fn is_positive_integer_word(word: &[u8]) -> bool
     ensures { result ≡ spec.is_positive (value word.now) }
 {
     match word {
@@ -28,8 +28,8 @@ fn is_positive(word: &[u8]) -> bool
 }
 
 /// Whether a word is the place of an item of a tuple: an integer from 1 on, of any size.
-pub fn is_place(word: &Text) -> bool
+pub fn is_tuple_place(word: &Text) -> bool
     ensures { result ≡ spec.is_place word.now }
 {
-    is_integer(word) && is_positive(word.as_bytes())
+    is_integer(word) && is_positive_integer_word(word.as_bytes())
 }

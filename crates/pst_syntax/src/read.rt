@@ -12,12 +12,12 @@ ghost use Rattle.pst_syntax.specs.Shown.{shown, shown_clause};
 
 use crate::fault::FaultKind;
 use crate::limits::{MAX_PARTS, MAX_TY_LEVELS};
-use crate::names::{copy_declared_name, is_unreserved_name, is_usable_operation_name};
+use crate::names::{check_and_copy_declared_name, is_unreserved_name, is_usable_operation_name};
 use crate::shape::{FoldShape, Shape, shape_of};
 use crate::ty_shapes::{ClauseShape, clause_shape};
 use crate::types::read_ty;
 use pst_model::{Clause, Expr};
-use pst_sexpr::{Form, value_of};
+use pst_sexpr::{Form, value_of_integer_word};
 use pst_value::{Boxed, Items, LIMIT, Text, Ty};
 use std::alloc::Global;
 
@@ -25,7 +25,7 @@ use std::alloc::Global;
 fn read_bound_name(alloc: Global, has_maps: bool, name: &Text) -> Result<Text, FaultKind>
     ensures { Gives result (spec.bound has_maps name.now) }
 {
-    copy_declared_name(alloc, is_unreserved_name(has_maps, name), false, name)
+    check_and_copy_declared_name(alloc, is_unreserved_name(has_maps, name), false, name)
 }
 
 /// A bound name beside another one.
@@ -38,11 +38,11 @@ fn read_distinct_bound_name(
     ensures { Gives result (spec.bound_beside has_maps other.now name.now) }
 {
     let is_taken = other.as_str() == name.as_str();
-    copy_declared_name(alloc, is_unreserved_name(has_maps, name), is_taken, name)
+    check_and_copy_declared_name(alloc, is_unreserved_name(has_maps, name), is_taken, name)
 }
 
 /// The name of an operation at a use of it.
-fn used_operation(alloc: Global, name: &Text) -> Result<Text, FaultKind>
+fn check_and_copy_operation_name(alloc: Global, name: &Text) -> Result<Text, FaultKind>
     ensures { Gives result (spec.used_operation name.now) }
 {
     if !is_usable_operation_name(name) {
@@ -52,13 +52,13 @@ fn used_operation(alloc: Global, name: &Text) -> Result<Text, FaultKind>
 }
 
 /// An integer, if it has at most 64 bits.
-fn read_int(word: &Text) -> Option<Expr>
+fn read_integer_expr(word: &Text) -> Option<Expr>
     ensures { ok_or result OverLimit ≡ spec.int_of word.now }
 {
-    Some(Expr::Int(value_of(word)?))
+    Some(Expr::Int(value_of_integer_word(word)?))
 }
 
-fn read_text(alloc: Global, text: &Text) -> Result<Expr, FaultKind>
+fn read_text_expr(alloc: Global, text: &Text) -> Result<Expr, FaultKind>
     ensures { Gives result (spec.text_of text.now) }
 {
     if text.len() > LIMIT {
@@ -71,12 +71,16 @@ fn read_text(alloc: Global, text: &Text) -> Result<Expr, FaultKind>
 fn build_tuple_item_expr(tuple: Boxed<Expr>, place: &Text) -> Option<Expr>
     ensures { ok_or result OverLimit ≡ spec.item_at tuple place.now }
 {
-    let place = value_of(place)?;
+    let place = value_of_integer_word(place)?;
     Some(Expr::At(tuple, place.max(0) as u64))
 }
 
 /// An application of a function.
-fn application(alloc: Global, function: &Text, arguments: Items<Expr>) -> Result<Expr, FaultKind>
+fn build_application_expr(
+    alloc: Global,
+    function: &Text,
+    arguments: Items<Expr>,
+) -> Result<Expr, FaultKind>
     ensures { Gives result (Ok (expr.Apply function.now arguments)) }
 {
     Ok(Expr::Apply(function.copy(alloc)?, arguments))
@@ -94,12 +98,12 @@ pub fn read_expr(alloc: Global, has_maps: bool, form: &Form, room: usize) -> Res
     if room == 0 {
         return Err(FaultKind::OverLimit);
     }
-    expr_parts(alloc, has_maps, &shape, room - 1)
+    read_expr_of_shape(alloc, has_maps, &shape, room - 1)
 }
 
 /// Reads an expression by its shape. The function is long because it has an arm for each shape.
 #[cycle(read_expr)]
-fn expr_parts(
+fn read_expr_of_shape(
     alloc: Global,
     has_maps: bool,
     shape: &Shape<'_>,
@@ -110,31 +114,31 @@ fn expr_parts(
         (shown shape.now)) }
 {
     match shape {
-        Shape::Integer(word) => read_int(word).ok_or(FaultKind::OverLimit),
+        Shape::Integer(word) => read_integer_expr(word).ok_or(FaultKind::OverLimit),
         Shape::Truth(truth) => Ok(Expr::Bool(*truth)),
-        Shape::Quoted(bytes) => read_text(alloc, bytes),
+        Shape::Quoted(bytes) => read_text_expr(alloc, bytes),
         Shape::Used(name) => Ok(Expr::Name(name.copy(alloc)?)),
         Shape::Let(name, value, body) => read_let(alloc, has_maps, name, value, body, room),
         Shape::If(test, yes, no) => read_if(alloc, has_maps, test, yes, no, room),
         Shape::And(a, b) => {
-            let a = read_boxed(alloc, has_maps, a, room)?;
-            Ok(Expr::And(a, read_boxed(alloc, has_maps, b, room)?))
+            let a = read_boxed_expr(alloc, has_maps, a, room)?;
+            Ok(Expr::And(a, read_boxed_expr(alloc, has_maps, b, room)?))
         }
         Shape::Or(a, b) => {
-            let a = read_boxed(alloc, has_maps, a, room)?;
-            Ok(Expr::Or(a, read_boxed(alloc, has_maps, b, room)?))
+            let a = read_boxed_expr(alloc, has_maps, a, room)?;
+            Ok(Expr::Or(a, read_boxed_expr(alloc, has_maps, b, room)?))
         }
         Shape::Unary(operator, a) => Ok(Expr::Unary(
             *operator,
-            read_boxed(alloc, has_maps, a, room)?,
+            read_boxed_expr(alloc, has_maps, a, room)?,
         )),
         Shape::Binary(operator, a, b) => {
-            let a = read_boxed(alloc, has_maps, a, room)?;
-            Ok(Expr::Binary(*operator, a, read_boxed(alloc, has_maps, b, room)?))
+            let a = read_boxed_expr(alloc, has_maps, a, room)?;
+            Ok(Expr::Binary(*operator, a, read_boxed_expr(alloc, has_maps, b, room)?))
         }
         Shape::Tuple(items) => read_tuple(alloc, has_maps, items, room),
         Shape::At(tuple, place) => {
-            build_tuple_item_expr(read_boxed(alloc, has_maps, tuple, room)?, place).ok_or(
+            build_tuple_item_expr(read_boxed_expr(alloc, has_maps, tuple, room)?, place).ok_or(
                 FaultKind::OverLimit,
             )
         }
@@ -147,11 +151,11 @@ fn expr_parts(
         )),
         Shape::Put(map, key, value) => read_put(alloc, has_maps, map, key, value, room),
         Shape::Call(operation, arguments) => {
-            let operation = used_operation(alloc, operation)?;
+            let operation = check_and_copy_operation_name(alloc, operation)?;
             Ok(Expr::Call(operation, read_exprs(alloc, has_maps, arguments, room)?))
         }
         Shape::Apply(function, arguments) => {
-            application(
+            build_application_expr(
                 alloc,
                 function,
                 read_exprs(alloc, has_maps, arguments, room)?,
@@ -161,7 +165,7 @@ fn expr_parts(
 }
 
 #[cycle(read_expr)]
-fn read_boxed(
+fn read_boxed_expr(
     alloc: Global,
     has_maps: bool,
     form: &Form,
@@ -217,8 +221,8 @@ fn read_let(
         (Let name.now value.now body.now)) }
 {
     let name = read_bound_name(alloc, has_maps, name)?;
-    let value = read_boxed(alloc, has_maps, value, room)?;
-    Ok(Expr::Let(name, value, read_boxed(alloc, has_maps, body, room)?))
+    let value = read_boxed_expr(alloc, has_maps, value, room)?;
+    Ok(Expr::Let(name, value, read_boxed_expr(alloc, has_maps, body, room)?))
 }
 
 /// One of two expressions, by a test.
@@ -235,9 +239,9 @@ fn read_if(
         (spec.expr_parts has_maps (spec.ty_of has_maps ty_room) (spec.expr_of has_maps room)
         (If test.now yes.now no.now)) }
 {
-    let test = read_boxed(alloc, has_maps, test, room)?;
-    let yes = read_boxed(alloc, has_maps, yes, room)?;
-    Ok(Expr::If(test, yes, read_boxed(alloc, has_maps, no, room)?))
+    let test = read_boxed_expr(alloc, has_maps, test, room)?;
+    let yes = read_boxed_expr(alloc, has_maps, yes, room)?;
+    Ok(Expr::If(test, yes, read_boxed_expr(alloc, has_maps, no, room)?))
 }
 
 /// A comprehension.
@@ -257,7 +261,7 @@ fn read_for(
         return Err(FaultKind::OverLimit);
     }
     let clauses = read_clauses(alloc, has_maps, parts, room)?;
-    Ok(Expr::For(clauses, read_boxed(alloc, has_maps, body, room)?))
+    Ok(Expr::For(clauses, read_boxed_expr(alloc, has_maps, body, room)?))
 }
 
 /// A fold over a list.
@@ -274,15 +278,15 @@ fn read_fold(
         shape.now.body.now)) }
 {
     let name = read_bound_name(alloc, has_maps, shape.name)?;
-    let list = read_boxed(alloc, has_maps, shape.list, room)?;
+    let list = read_boxed_expr(alloc, has_maps, shape.list, room)?;
     let built = read_distinct_bound_name(alloc, has_maps, shape.name, shape.built)?;
-    let first = read_boxed(alloc, has_maps, shape.first, room)?;
+    let first = read_boxed_expr(alloc, has_maps, shape.first, room)?;
     Ok(Expr::Fold(
         name,
         list,
         built,
         first,
-        read_boxed(alloc, has_maps, shape.body, room)?,
+        read_boxed_expr(alloc, has_maps, shape.body, room)?,
     ))
 }
 
@@ -300,9 +304,9 @@ fn read_put(
         (spec.expr_parts has_maps (spec.ty_of has_maps ty_room) (spec.expr_of has_maps room)
         (Put map.now key.now value.now)) }
 {
-    let map = read_boxed(alloc, has_maps, map, room)?;
-    let key = read_boxed(alloc, has_maps, key, room)?;
-    Ok(Expr::Put(map, key, read_boxed(alloc, has_maps, value, room)?))
+    let map = read_boxed_expr(alloc, has_maps, map, room)?;
+    let key = read_boxed_expr(alloc, has_maps, key, room)?;
+    Ok(Expr::Put(map, key, read_boxed_expr(alloc, has_maps, value, room)?))
 }
 
 #[cycle(read_expr)]

@@ -6,13 +6,13 @@ ghost use Rattle.pst_syntax.specs.Items as spec;
 ghost use Rattle.pst_syntax.specs.Items.{Answers, head_of_model, in_item, model_of};
 ghost use Rattle.pst_syntax.specs.declared.fault.FaultKind.{FaultKind};
 
-use crate::count::room_after;
+use crate::count::room_left_after_tree;
 use crate::fault::{FaultKind, SyntaxFault, syntax_fault_in_item};
 use crate::item_shapes::{ModelShape, model_shape};
 use crate::items::{has_command, has_init, has_state, read_item};
 use crate::limits::MAX_TREES;
 use crate::model::Model;
-use crate::names::{copy_declared_name, is_name};
+use crate::names::{check_and_copy_declared_name, is_name};
 use pst_model::{Item, Source};
 use pst_sexpr::{Form, Tree};
 use pst_value::Items;
@@ -38,7 +38,7 @@ fn read_source(alloc: Global, form: &Form) -> Result<Source, SyntaxFault>
     ensures head { (kind : FaultKind) →
         head_of_model (form.now ∷ []) ≡ Err kind → result ≡ Err (in_item 0 kind) }
 {
-    if room_after(form, MAX_TREES).is_none() {
+    if room_left_after_tree(form, MAX_TREES).is_none() {
         return Err(syntax_fault_in_item(FaultKind::OverLimit, 0));
     }
     let Some(
@@ -51,7 +51,7 @@ fn read_source(alloc: Global, form: &Form) -> Result<Source, SyntaxFault>
     else {
         return Err(syntax_fault_in_item(FaultKind::UnknownForm, 0));
     };
-    let name = match copy_declared_name(alloc, is_name(name), false, name) {
+    let name = match check_and_copy_declared_name(alloc, is_name(name), false, name) {
         Ok(name) => name,
         Err(kind) => return Err(syntax_fault_in_item(kind, 0)),
     };

@@ -9,7 +9,7 @@ ghost use Rattle.pst_syntax.specs.Shown.{shown_option};
 
 use crate::heads::{Head, head_of};
 use crate::names::is_usable_name;
-use crate::place::is_place;
+use crate::place::is_tuple_place;
 use pst_model as model;
 use pst_sexpr::{Form, is_integer, node_of, word_of};
 use pst_value::{KeyTy, Text};
@@ -60,7 +60,7 @@ pub fn forms_unless_empty(forms: &[Form]) -> Option<&[Form]>
     }
 }
 
-fn word_shape(has_maps: bool, word: &Text) -> Option<Shape<'_>>
+fn expression_shape_of_word(has_maps: bool, word: &Text) -> Option<Shape<'_>>
     ensures { shown_option result ≡ spec.word_shape has_maps word.now }
 {
     if is_integer(word) {
@@ -79,7 +79,7 @@ fn word_shape(has_maps: bool, word: &Text) -> Option<Shape<'_>>
 }
 
 /// The type of the keys of a map.
-pub fn key_shape(form: &Form) -> Option<KeyTy>
+pub fn read_key_type(form: &Form) -> Option<KeyTy>
     ensures { result ≡ spec.key_shape form.now }
 {
     let word = word_of(form)?;
@@ -101,11 +101,11 @@ fn let_shape<'a>(name: &'a Form, value: &'a Form, body: &'a Form) -> Option<Shap
     Some(Shape::Let(word_of(name)?, value, body))
 }
 
-fn at_shape<'a>(tuple: &'a Form, place: &'a Form) -> Option<Shape<'a>>
+fn tuple_item_shape<'a>(tuple: &'a Form, place: &'a Form) -> Option<Shape<'a>>
     ensures { shown_option result ≡ spec.headed head.At (tuple.now ∷ place.now ∷ []) }
 {
     let place = word_of(place)?;
-    if is_place(place) {
+    if is_tuple_place(place) {
         Some(Shape::At(tuple, place))
     } else {
         None
@@ -146,11 +146,11 @@ fn expression_shape_by_head(head: Head, parts: &[Form]) -> Option<Shape<'_>>
         (Head::Unary(operator), [a]) => Some(Shape::Unary(operator, a)),
         (Head::Binary(operator), [a, b]) => Some(Shape::Binary(operator, a, b)),
         (Head::Tuple, items) => Some(Shape::Tuple(forms_unless_empty(items)?)),
-        (Head::At, [tuple, place]) => at_shape(tuple, place),
+        (Head::At, [tuple, place]) => tuple_item_shape(tuple, place),
         (Head::List, [ty, items @ ..]) => Some(Shape::List(ty, items)),
         (Head::For, [clauses, body]) => for_shape(clauses, body),
         (Head::Fold, parts) => fold_shape(parts),
-        (Head::Map, [key, value]) => Some(Shape::Map(key_shape(key)?, value)),
+        (Head::Map, [key, value]) => Some(Shape::Map(read_key_type(key)?, value)),
         (Head::Put, [map, key, value]) => Some(Shape::Put(map, key, value)),
         (Head::Call, [operation, arguments @ ..]) => {
             Some(Shape::Call(word_of(operation)?, arguments))
@@ -159,7 +159,7 @@ fn expression_shape_by_head(head: Head, parts: &[Form]) -> Option<Shape<'_>>
     }
 }
 
-fn node_shape(has_maps: bool, parts: &[Form]) -> Option<Shape<'_>>
+fn expression_shape_of_node(has_maps: bool, parts: &[Form]) -> Option<Shape<'_>>
     ensures { shown_option result ≡ spec.node_shape has_maps parts.now }
 {
     let (first, parts) = parts.split_first()?;
@@ -180,8 +180,8 @@ pub fn shape_of(has_maps: bool, form: &Form) -> Option<Shape<'_>>
     ensures { shown_option result ≡ spec.shape_of has_maps form.now }
 {
     match form {
-        Form::Word(word) => word_shape(has_maps, word),
+        Form::Word(word) => expression_shape_of_word(has_maps, word),
         Form::Text(text) => Some(Shape::Quoted(text)),
-        Form::Node(parts) => node_shape(has_maps, parts.as_slice()),
+        Form::Node(parts) => expression_shape_of_node(has_maps, parts.as_slice()),
     }
 }

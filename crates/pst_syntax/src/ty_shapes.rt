@@ -5,7 +5,7 @@ ghost use Rattle.pst_syntax.specs.Shape as spec;
 ghost use Rattle.pst_syntax.specs.Shown.{shown_ty_option, shown_clause_option};
 
 use crate::heads::{Head, head_of};
-use crate::shape::{forms_unless_empty, key_shape};
+use crate::shape::{forms_unless_empty, read_key_type};
 use pst_sexpr::{Form, node_of, word_of};
 use pst_value::{KeyTy, Text};
 
@@ -29,7 +29,7 @@ pub enum ClauseShape<'a> {
     When(&'a Form),
 }
 
-fn ty_word(word: &str) -> Option<TyShape<'_>>
+fn type_shape_of_word(word: &str) -> Option<TyShape<'_>>
     ensures { shown_ty_option result ≡ spec.ty_word word.now }
 {
     if word == "int" {
@@ -45,14 +45,14 @@ fn ty_word(word: &str) -> Option<TyShape<'_>>
     }
 }
 
-fn ty_node(has_maps: bool, parts: &[Form]) -> Option<TyShape<'_>>
+fn type_shape_of_node(has_maps: bool, parts: &[Form]) -> Option<TyShape<'_>>
     ensures { shown_ty_option result ≡ spec.ty_node has_maps parts.now }
 {
     let (first, parts) = parts.split_first()?;
     match (head_of(has_maps, word_of(first)?.as_str())?, parts) {
         (Head::Tuple, types) => Some(TyShape::Tuple(forms_unless_empty(types)?)),
         (Head::List, [ty]) => Some(TyShape::List(ty)),
-        (Head::Map, [key, value]) => Some(TyShape::Map(key_shape(key)?, value)),
+        (Head::Map, [key, value]) => Some(TyShape::Map(read_key_type(key)?, value)),
         (Head::Ref, [ty]) => Some(TyShape::Ref(ty)),
         _ => None,
     }
@@ -64,13 +64,13 @@ pub fn ty_shape(has_maps: bool, form: &Form) -> Option<TyShape<'_>>
     ensures { shown_ty_option result ≡ spec.ty_shape has_maps form.now }
 {
     match form {
-        Form::Word(word) => ty_word(word.as_str()),
+        Form::Word(word) => type_shape_of_word(word.as_str()),
         Form::Text(_) => None,
-        Form::Node(parts) => ty_node(has_maps, parts.as_slice()),
+        Form::Node(parts) => type_shape_of_node(has_maps, parts.as_slice()),
     }
 }
 
-fn clause_node(parts: &[Form]) -> Option<ClauseShape<'_>>
+fn clause_shape_of_node(parts: &[Form]) -> Option<ClauseShape<'_>>
     ensures { shown_clause_option result ≡ spec.clause_node parts.now }
 {
     let (first, parts) = parts.split_first()?;
@@ -86,5 +86,5 @@ fn clause_node(parts: &[Form]) -> Option<ClauseShape<'_>>
 pub fn clause_shape(form: &Form) -> Option<ClauseShape<'_>>
     ensures { shown_clause_option result ≡ spec.clause_shape form.now }
 {
-    clause_node(node_of(form)?)
+    clause_shape_of_node(node_of(form)?)
 }

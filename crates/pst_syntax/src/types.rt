@@ -23,11 +23,11 @@ pub fn read_ty(alloc: Global, has_maps: bool, form: &Form, room: usize) -> Resul
     if room == 0 {
         return Err(FaultKind::OverLimit);
     }
-    ty_parts(alloc, has_maps, &shape, room - 1)
+    read_type_of_shape(alloc, has_maps, &shape, room - 1)
 }
 
 #[cycle(read_ty)]
-fn ty_parts(
+fn read_type_of_shape(
     alloc: Global,
     has_maps: bool,
     shape: &TyShape<'_>,
@@ -46,14 +46,22 @@ fn ty_parts(
             }
             Ok(Ty::Tuple(read_types(alloc, has_maps, types, room)?))
         }
-        TyShape::List(item) => Ok(Ty::List(boxed_ty(alloc, has_maps, item, room)?)),
-        TyShape::Map(key, value) => Ok(Ty::Map(*key, boxed_ty(alloc, has_maps, value, room)?)),
-        TyShape::Ref(target) => Ok(Ty::Ref(boxed_ty(alloc, has_maps, target, room)?)),
+        TyShape::List(item) => Ok(Ty::List(read_boxed_type(alloc, has_maps, item, room)?)),
+        TyShape::Map(key, value) => Ok(Ty::Map(
+            *key,
+            read_boxed_type(alloc, has_maps, value, room)?,
+        )),
+        TyShape::Ref(target) => Ok(Ty::Ref(read_boxed_type(alloc, has_maps, target, room)?)),
     }
 }
 
 #[cycle(read_ty)]
-fn boxed_ty(alloc: Global, has_maps: bool, form: &Form, room: usize) -> Result<Boxed<Ty>, FaultKind>
+fn read_boxed_type(
+    alloc: Global,
+    has_maps: bool,
+    form: &Form,
+    room: usize,
+) -> Result<Boxed<Ty>, FaultKind>
     ensures { Gives result (spec.ty_of has_maps room form.now) }
 {
     Ok(Boxed::new(alloc, read_ty(alloc, has_maps, form, room)?)?)

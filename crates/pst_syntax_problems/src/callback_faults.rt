@@ -12,8 +12,10 @@ ghost use Rattle.pst_syntax.specs.ShownItems.{shown_callback_option};
 
 use crate::fault::Role;
 use crate::problem::path_to_part;
-use crate::telling::{AddingResult, FaultSearch, Faults, push_fault, push_fault_unless};
-use crate::whole_faults::add_single_expression_faults;
+use crate::telling::{
+    AddingResult, FaultSearch, Faults, push_fault_unless, push_fault_within_limit,
+};
+use crate::whole_faults::add_repetition_and_expression_faults;
 use pst_sexpr::Form;
 use pst_syntax::{CallbackShape, FaultKind, callback_shape};
 use pst_value::Items;
@@ -63,7 +65,7 @@ fn add_callback_faults(
 {
     let role = Role::Callback;
     match shape {
-        Some(CallbackShape::Pre(body)) => add_single_expression_faults(
+        Some(CallbackShape::Pre(body)) => add_repetition_and_expression_faults(
             walk,
             faults,
             role,
@@ -71,7 +73,7 @@ fn add_callback_faults(
             has_pre_callback(seen),
             body,
         )?,
-        Some(CallbackShape::Next(body)) => add_single_expression_faults(
+        Some(CallbackShape::Next(body)) => add_repetition_and_expression_faults(
             walk,
             faults,
             role,
@@ -79,7 +81,7 @@ fn add_callback_faults(
             has_next_callback(seen),
             body,
         )?,
-        Some(CallbackShape::Post(body)) => add_single_expression_faults(
+        Some(CallbackShape::Post(body)) => add_repetition_and_expression_faults(
             walk,
             faults,
             role,
@@ -87,14 +89,14 @@ fn add_callback_faults(
             has_post_callback(seen),
             body,
         )?,
-        None => push_fault(walk, faults, path, role, FaultKind::UnknownForm)?,
+        None => push_fault_within_limit(walk, faults, path, role, FaultKind::UnknownForm)?,
     }
     Ok(())
 }
 
 /// Adds the faults of the callbacks of an operation, which are the parts from 4 on of the tree at `path`.
 #[tactic(auto, using(crate::proofs::Keeping::keeping))]
-pub fn add_callbacks_faults(
+pub fn add_faults_of_callbacks_and_missing_ones(
     walk: FaultSearch,
     faults: &mut Faults,
     path: &[usize],

@@ -12,19 +12,21 @@ ghost use Rattle.pst_syntax.specs.Shown.{shown};
 use crate::fault::Role;
 use crate::part_faults::{
     add_bound_name_faults, add_map_value_type_faults, add_operation_name_faults,
-    add_tuple_place_faults, is_expression_within_limits,
+    add_tuple_place_faults, is_expression_shape_within_limits,
 };
 use crate::problem::path_to_part;
-use crate::telling::{AddingResult, FaultSearch, Faults, push_fault, push_fault_unless};
-use crate::type_faults::add_ty_part_faults;
+use crate::telling::{
+    AddingResult, FaultSearch, Faults, push_fault_unless, push_fault_within_limit,
+};
+use crate::type_faults::add_type_faults_at_part;
 use pst_sexpr::Form;
 use pst_syntax::{ClauseShape, FaultKind, FoldShape, MAX_TY_LEVELS, Shape, clause_shape, shape_of};
 use pst_value::Text;
 
-/// Adds the faults of an expression with `room` levels of room.
-#[cycle(add_expr_faults)]
+/// Adds the faults of an expression with room for `room` levels of nesting.
+#[cycle(add_expression_faults)]
 #[tactic(auto, using(crate::proofs::Keeping::keeping, crate::proofs::Levels::expr_levels))]
-pub fn add_expr_faults(
+pub fn add_expression_faults(
     walk: FaultSearch,
     faults: &mut Faults,
     path: &[usize],
@@ -35,10 +37,16 @@ pub fn add_expr_faults(
         (expr_faults_at walk.has_maps room role.Expression path.now form.now)) }
 {
     let Some(shape) = shape_of(walk.has_maps, form) else {
-        return push_fault(walk, faults, path, Role::Expression, FaultKind::UnknownForm);
+        return push_fault_within_limit(
+            walk,
+            faults,
+            path,
+            Role::Expression,
+            FaultKind::UnknownForm,
+        );
     };
     if room == 0 {
-        return push_fault(
+        return push_fault_within_limit(
             walk,
             faults,
             path,
@@ -51,16 +59,16 @@ pub fn add_expr_faults(
         faults,
         path,
         Role::Expression,
-        is_expression_within_limits(&shape),
+        is_expression_shape_within_limits(&shape),
         FaultKind::OverLimit,
     )?;
-    add_expr_shape_faults(walk, faults, path, &shape, room - 1)?;
+    add_faults_of_expression_parts(walk, faults, path, &shape, room - 1)?;
     Ok(())
 }
 
-#[cycle(add_expr_faults)]
+#[cycle(add_expression_faults)]
 #[tactic(auto, using(crate::proofs::Keeping::keeping))]
-fn add_expr_shape_faults(
+fn add_faults_of_expression_parts(
     walk: FaultSearch,
     faults: &mut Faults,
     path: &[usize],
@@ -76,28 +84,32 @@ fn add_expr_shape_faults(
         Shape::Let(name, value, body) => add_let_faults(
             walk, faults, path, name, value, body, room,
         ),
-        Shape::If(a, b, c) => add_ternary_faults(walk, faults, path, a, b, c, room),
-        Shape::Put(a, b, c) => add_ternary_faults(walk, faults, path, a, b, c, room),
-        Shape::And(a, b) => add_binary_faults(walk, faults, path, a, b, room),
-        Shape::Or(a, b) => add_binary_faults(walk, faults, path, a, b, room),
-        Shape::Binary(_, a, b) => add_binary_faults(walk, faults, path, a, b, room),
-        Shape::Unary(_, a) => add_unary_faults(walk, faults, path, a, room),
-        Shape::Tuple(items) => add_faults_of_exprs_from_part(walk, faults, path, 1, items, room),
-        Shape::At(tuple, number) => add_tuple_item_faults(walk, faults, path, tuple, number, room),
+        Shape::If(a, b, c) => add_faults_of_three_operands(walk, faults, path, a, b, c, room),
+        Shape::Put(a, b, c) => add_faults_of_three_operands(walk, faults, path, a, b, c, room),
+        Shape::And(a, b) => add_faults_of_two_operands(walk, faults, path, a, b, room),
+        Shape::Or(a, b) => add_faults_of_two_operands(walk, faults, path, a, b, room),
+        Shape::Binary(_, a, b) => add_faults_of_two_operands(walk, faults, path, a, b, room),
+        Shape::Unary(_, a) => add_faults_of_one_operand(walk, faults, path, a, room),
+        Shape::Tuple(items) => add_faults_of_expressions_from_part(
+            walk, faults, path, 1, items, room,
+        ),
+        Shape::At(tuple, number) => add_tuple_access_faults(
+            walk, faults, path, tuple, number, room,
+        ),
         Shape::List(item, items) => add_list_faults(walk, faults, path, item, items, room),
-        Shape::For(parts, body) => add_for_faults(walk, faults, path, parts, body, room),
+        Shape::For(parts, body) => add_comprehension_faults(walk, faults, path, parts, body, room),
         Shape::Fold(shape) => add_fold_faults(walk, faults, path, shape, room),
         Shape::Map(_, value) => add_map_value_type_faults(walk, faults, path, value),
         Shape::Call(name, arguments) => add_call_faults(walk, faults, path, name, arguments, room),
-        Shape::Apply(_, arguments) => add_faults_of_exprs_from_part(
+        Shape::Apply(_, arguments) => add_faults_of_expressions_from_part(
             walk, faults, path, 1, arguments, room,
         ),
     }
 }
 
 /// Adds the faults of an expression that is part `number` of the tree at `path`.
-#[cycle(add_expr_faults)]
-pub fn add_expr_part_faults(
+#[cycle(add_expression_faults)]
+pub fn add_expression_faults_at_part(
     walk: FaultSearch,
     faults: &mut Faults,
     path: &[usize],
@@ -109,13 +121,13 @@ pub fn add_expr_part_faults(
         (expr_faults_at walk.has_maps room role.Expression (spec.below path.now number) form.now)) }
 {
     let path = path_to_part(path, walk.alloc, number)?;
-    add_expr_faults(walk, faults, path.as_slice(), form, room)
+    add_expression_faults(walk, faults, path.as_slice(), form, room)
 }
 
 /// Adds the faults of an expression that is part 1 of the tree at `path`.
-#[cycle(add_expr_faults)]
+#[cycle(add_expression_faults)]
 #[tactic(auto, using(crate::proofs::Keeping::keeping))]
-fn add_unary_faults(
+fn add_faults_of_one_operand(
     walk: FaultSearch,
     faults: &mut Faults,
     path: &[usize],
@@ -126,14 +138,14 @@ fn add_unary_faults(
         (all_at (spec.spot_in walk.has_maps (expr_faults_at walk.has_maps room))
         (spots_from path.now 1 (Expression a.now ∷ [])))) }
 {
-    add_expr_part_faults(walk, faults, path, 1, a, room)?;
+    add_expression_faults_at_part(walk, faults, path, 1, a, room)?;
     Ok(())
 }
 
 /// Adds the faults of expressions that are the parts 1 and 2 of the tree at `path`.
-#[cycle(add_expr_faults)]
+#[cycle(add_expression_faults)]
 #[tactic(auto, using(crate::proofs::Keeping::keeping))]
-fn add_binary_faults(
+fn add_faults_of_two_operands(
     walk: FaultSearch,
     faults: &mut Faults,
     path: &[usize],
@@ -145,16 +157,16 @@ fn add_binary_faults(
         (all_at (spec.spot_in walk.has_maps (expr_faults_at walk.has_maps room))
         (spots_from path.now 1 (Expression a.now ∷ Expression b.now ∷ [])))) }
 {
-    add_expr_part_faults(walk, faults, path, 1, a, room)?;
-    add_expr_part_faults(walk, faults, path, 2, b, room)?;
+    add_expression_faults_at_part(walk, faults, path, 1, a, room)?;
+    add_expression_faults_at_part(walk, faults, path, 2, b, room)?;
     Ok(())
 }
 
 /// Adds the faults of expressions that are the parts 1, 2 and 3 of the tree at `path`. The parts are parameters of their
 /// own, since the contract names each.
-#[cycle(add_expr_faults)]
+#[cycle(add_expression_faults)]
 #[tactic(auto, using(crate::proofs::Keeping::keeping))]
-fn add_ternary_faults(
+fn add_faults_of_three_operands(
     walk: FaultSearch,
     faults: &mut Faults,
     path: &[usize],
@@ -167,15 +179,15 @@ fn add_ternary_faults(
         (all_at (spec.spot_in walk.has_maps (expr_faults_at walk.has_maps room))
         (spots_from path.now 1 (Expression a.now ∷ Expression b.now ∷ Expression c.now ∷ [])))) }
 {
-    add_expr_part_faults(walk, faults, path, 1, a, room)?;
-    add_expr_part_faults(walk, faults, path, 2, b, room)?;
-    add_expr_part_faults(walk, faults, path, 3, c, room)?;
+    add_expression_faults_at_part(walk, faults, path, 1, a, room)?;
+    add_expression_faults_at_part(walk, faults, path, 2, b, room)?;
+    add_expression_faults_at_part(walk, faults, path, 3, c, room)?;
     Ok(())
 }
 
 /// Adds the faults of a body that sees a value under a name. The parts of the `let` are parameters of their own, since the
 /// contract names each.
-#[cycle(add_expr_faults)]
+#[cycle(add_expression_faults)]
 #[tactic(auto, using(crate::proofs::Keeping::keeping))]
 fn add_let_faults(
     walk: FaultSearch,
@@ -191,15 +203,15 @@ fn add_let_faults(
         (spec.spots walk.has_maps path.now (Let name.now value.now body.now)))) }
 {
     add_bound_name_faults(walk, faults, path, 1, false, name)?;
-    add_expr_part_faults(walk, faults, path, 2, value, room)?;
-    add_expr_part_faults(walk, faults, path, 3, body, room)?;
+    add_expression_faults_at_part(walk, faults, path, 2, value, room)?;
+    add_expression_faults_at_part(walk, faults, path, 3, body, room)?;
     Ok(())
 }
 
 /// Adds the faults of an item of a tuple.
-#[cycle(add_expr_faults)]
+#[cycle(add_expression_faults)]
 #[tactic(auto, using(crate::proofs::Keeping::keeping))]
-fn add_tuple_item_faults(
+fn add_tuple_access_faults(
     walk: FaultSearch,
     faults: &mut Faults,
     path: &[usize],
@@ -211,13 +223,13 @@ fn add_tuple_item_faults(
         (all_at (spec.spot_in walk.has_maps (expr_faults_at walk.has_maps room))
         (spec.spots walk.has_maps path.now (At tuple.now number.now)))) }
 {
-    add_expr_part_faults(walk, faults, path, 1, tuple, room)?;
+    add_expression_faults_at_part(walk, faults, path, 1, tuple, room)?;
     add_tuple_place_faults(walk, faults, path, number)?;
     Ok(())
 }
 
 /// Adds the faults of a list that is written out.
-#[cycle(add_expr_faults)]
+#[cycle(add_expression_faults)]
 #[tactic(auto, using(crate::proofs::Keeping::keeping))]
 fn add_list_faults(
     walk: FaultSearch,
@@ -231,15 +243,15 @@ fn add_list_faults(
         (all_at (spec.spot_in walk.has_maps (expr_faults_at walk.has_maps room))
         (spec.spots walk.has_maps path.now (ListOf item.now items.now)))) }
 {
-    add_ty_part_faults(walk, faults, Role::ItemType, path, 1, item, MAX_TY_LEVELS)?;
-    add_faults_of_exprs_from_part(walk, faults, path, 2, items, room)?;
+    add_type_faults_at_part(walk, faults, Role::ItemType, path, 1, item, MAX_TY_LEVELS)?;
+    add_faults_of_expressions_from_part(walk, faults, path, 2, items, room)?;
     Ok(())
 }
 
 /// Adds the faults of a comprehension.
-#[cycle(add_expr_faults)]
+#[cycle(add_expression_faults)]
 #[tactic(auto, using(crate::proofs::Keeping::keeping))]
-fn add_for_faults(
+fn add_comprehension_faults(
     walk: FaultSearch,
     faults: &mut Faults,
     path: &[usize],
@@ -251,13 +263,13 @@ fn add_for_faults(
         (all_at (spec.spot_in walk.has_maps (expr_faults_at walk.has_maps room))
         (spec.spots walk.has_maps path.now (For parts.now body.now)))) }
 {
-    add_clauses_faults(walk, faults, path, parts, room)?;
-    add_expr_part_faults(walk, faults, path, 2, body, room)?;
+    add_faults_of_comprehension_clauses(walk, faults, path, parts, room)?;
+    add_expression_faults_at_part(walk, faults, path, 2, body, room)?;
     Ok(())
 }
 
 /// Adds the faults of a call of an operation.
-#[cycle(add_expr_faults)]
+#[cycle(add_expression_faults)]
 #[tactic(auto, using(crate::proofs::Keeping::keeping))]
 fn add_call_faults(
     walk: FaultSearch,
@@ -272,14 +284,14 @@ fn add_call_faults(
         (spec.spots walk.has_maps path.now (Call name.now arguments.now)))) }
 {
     add_operation_name_faults(walk, faults, path, name)?;
-    add_faults_of_exprs_from_part(walk, faults, path, 2, arguments, room)?;
+    add_faults_of_expressions_from_part(walk, faults, path, 2, arguments, room)?;
     Ok(())
 }
 
 /// Adds the faults of expressions that are the parts from `from` on of the tree at `path`.
-#[cycle(add_expr_faults)]
+#[cycle(add_expression_faults)]
 #[tactic(auto, using(crate::proofs::Keeping::keeping))]
-fn add_faults_of_exprs_from_part(
+fn add_faults_of_expressions_from_part(
     walk: FaultSearch,
     faults: &mut Faults,
     path: &[usize],
@@ -294,14 +306,14 @@ fn add_faults_of_exprs_from_part(
 {
     let mut number = from;
     for form in forms {
-        add_expr_part_faults(walk, faults, path, number, form, room)?;
+        add_expression_faults_at_part(walk, faults, path, number, form, room)?;
         number += 1;
     }
     Ok(())
 }
 
 /// Adds the faults of a fold over a list.
-#[cycle(add_expr_faults)]
+#[cycle(add_expression_faults)]
 #[tactic(auto, using(crate::proofs::Keeping::keeping))]
 fn add_fold_faults(
     walk: FaultSearch,
@@ -317,18 +329,18 @@ fn add_fold_faults(
         shape.now.body.now)))) }
 {
     add_bound_name_faults(walk, faults, path, 1, false, shape.name)?;
-    add_expr_part_faults(walk, faults, path, 2, shape.list, room)?;
+    add_expression_faults_at_part(walk, faults, path, 2, shape.list, room)?;
     let is_taken = shape.name.as_str() == shape.built.as_str();
     add_bound_name_faults(walk, faults, path, 3, is_taken, shape.built)?;
-    add_expr_part_faults(walk, faults, path, 4, shape.first, room)?;
-    add_expr_part_faults(walk, faults, path, 5, shape.body, room)?;
+    add_expression_faults_at_part(walk, faults, path, 4, shape.first, room)?;
+    add_expression_faults_at_part(walk, faults, path, 5, shape.body, room)?;
     Ok(())
 }
 
 /// Adds the faults of the clauses of the comprehension at `path`.
-#[cycle(add_expr_faults)]
+#[cycle(add_expression_faults)]
 #[tactic(auto, using(crate::proofs::Keeping::keeping))]
-fn add_clauses_faults(
+fn add_faults_of_comprehension_clauses(
     walk: FaultSearch,
     faults: &mut Faults,
     path: &[usize],
@@ -342,16 +354,16 @@ fn add_clauses_faults(
     let path = path_to_part(path, walk.alloc, 1)?;
     let mut number = 0;
     for form in forms {
-        add_clause_faults(walk, faults, path.as_slice(), number, form, room)?;
+        add_comprehension_clause_faults(walk, faults, path.as_slice(), number, form, room)?;
         number += 1;
     }
     Ok(())
 }
 
 /// Adds the faults of a clause that is part `number` of the tree at `path`.
-#[cycle(add_expr_faults)]
+#[cycle(add_expression_faults)]
 #[tactic(auto, using(crate::proofs::Keeping::keeping))]
-fn add_clause_faults(
+fn add_comprehension_clause_faults(
     walk: FaultSearch,
     faults: &mut Faults,
     path: &[usize],
@@ -368,13 +380,13 @@ fn add_clause_faults(
     match clause_shape(form) {
         Some(ClauseShape::In(name, list)) => {
             add_bound_name_faults(walk, faults, path, 1, false, name)?;
-            add_expr_part_faults(walk, faults, path, 2, list, room)?;
+            add_expression_faults_at_part(walk, faults, path, 2, list, room)?;
             Ok(())
         }
         Some(ClauseShape::When(test)) => {
-            add_expr_part_faults(walk, faults, path, 1, test, room)?;
+            add_expression_faults_at_part(walk, faults, path, 1, test, room)?;
             Ok(())
         }
-        None => push_fault(walk, faults, path, Role::Clause, FaultKind::UnknownForm),
+        None => push_fault_within_limit(walk, faults, path, Role::Clause, FaultKind::UnknownForm),
     }
 }

@@ -1,12 +1,13 @@
 //! What messages say of refused expressions.
 
 use crate::forms::{
-    HeadedForm, expression_form, hint_for_foreign_word, nearest_expression_head_hint, type_form,
+    HeadedForm, find_expression_form, find_type_form, hint_for_foreign_word,
+    nearest_expression_head_hint,
 };
 use crate::found_problem::{
     FoundProblem, missing_name_problem, missing_operation_name_problem, problem_at,
     problem_at_part, problem_with_hint_if_foreign_word, problem_with_note,
-    problem_with_note_at_part, with_note, with_quotes_hint,
+    problem_with_note_at_part, with_hint_if_opens_single_quote, with_note,
 };
 use crate::problem::path_to_part;
 use crate::tree::head_word_of_node;
@@ -51,7 +52,7 @@ fn has_head_of_expressions_only(has_maps: bool, form: &Form) -> bool {
     match head_word_of_node(form) {
         Some(head) => {
             let head = head.as_str();
-            type_form(head).is_none() && expression_form(has_maps, head).is_some()
+            find_type_form(head).is_none() && find_expression_form(has_maps, head).is_some()
         }
         None => false,
     }
@@ -65,7 +66,7 @@ fn unknown_expression_word_problem(
     word: &Text,
 ) -> FoundProblem {
     let name = word.as_str();
-    if let Some(form) = expression_form(has_maps, name) {
+    if let Some(form) = find_expression_form(has_maps, name) {
         let written = form.written;
         return problem_at(
             alloc,
@@ -75,7 +76,7 @@ fn unknown_expression_word_problem(
     }
     let what = format_args!("`{name}` is neither an integer nor a name");
     let found = problem_with_hint_if_foreign_word(alloc, path, name, what)?;
-    with_quotes_hint(alloc, found, name)
+    with_hint_if_opens_single_quote(alloc, found, name)
 }
 
 /// How a form is written, or what to write in the place of one with `parts` parts.
@@ -110,7 +111,7 @@ impl fmt::Display for PartCountNote {
 }
 
 /// The problem of a form with `parts` parts, which takes another number.
-pub fn part_count_problem(
+pub fn problem_of_wrong_part_count(
     alloc: Global,
     path: &[usize],
     form: HeadedForm,
@@ -173,7 +174,7 @@ fn value_as_head_problem(alloc: Global, path: &[usize], word: &Text, parts: usiz
 }
 
 /// The problem of `place`, which is no place of an item of a tuple. `path` leads to it.
-pub fn tuple_place_problem(alloc: Global, path: &[usize], place: &Form) -> FoundProblem {
+pub fn problem_of_bad_tuple_place(alloc: Global, path: &[usize], place: &Form) -> FoundProblem {
     let what = "the place of a tuple's item is an integer, from 1";
     match word_of(place) {
         Some(word) if is_integer(word) => problem_at(alloc, path, what),
@@ -190,7 +191,7 @@ pub fn bad_map_key_type_problem(alloc: Global, path: &[usize]) -> FoundProblem {
 }
 
 /// The problem of a tree that is no list of clauses. `path` leads to it.
-fn clause_list_problem(alloc: Global, path: &[usize]) -> FoundProblem {
+fn not_a_clause_list_problem(alloc: Global, path: &[usize]) -> FoundProblem {
     problem_with_note(
         alloc,
         path,
@@ -204,9 +205,14 @@ const MAP_ENTRIES: &str = "hint: an empty map is `(map text int)`, and `(put m k
 
 /// The problem of a form with the head `word` and the right number of parts, one of which is not what it has
 /// to be. `path` leads to the form.
-fn wrong_part_problem(alloc: Global, path: &[usize], word: &str, parts: &[Form]) -> FoundProblem {
+fn wrong_expression_part_problem(
+    alloc: Global,
+    path: &[usize],
+    word: &str,
+    parts: &[Form],
+) -> FoundProblem {
     match (word, parts) {
-        ("at", [_, place]) => tuple_place_problem(
+        ("at", [_, place]) => problem_of_bad_tuple_place(
             alloc,
             path_to_part(path, alloc, 2)?.as_slice(),
             place,
@@ -216,7 +222,7 @@ fn wrong_part_problem(alloc: Global, path: &[usize], word: &str, parts: &[Form])
             bad_map_key_type_problem(alloc, path_to_part(path, alloc, 1)?.as_slice())?,
             MAP_ENTRIES,
         ),
-        ("for", _) => clause_list_problem(alloc, path_to_part(path, alloc, 1)?.as_slice()),
+        ("for", _) => not_a_clause_list_problem(alloc, path_to_part(path, alloc, 1)?.as_slice()),
         ("call", _) => missing_operation_name_problem(
             alloc,
             path_to_part(path, alloc, 1)?.as_slice(),
@@ -238,16 +244,16 @@ fn malformed_expression_node_problem(
     parts: &[Form],
 ) -> FoundProblem {
     let head = word.as_str();
-    match expression_form(has_maps, head) {
+    match find_expression_form(has_maps, head) {
         Some(form) if parts.len() < form.least || parts.len() > form.most => {
-            let found = part_count_problem(alloc, path, form, parts.len())?;
+            let found = problem_of_wrong_part_count(alloc, path, form, parts.len())?;
             if head == "map" && !parts.is_empty() {
                 with_note(alloc, found, MAP_ENTRIES)
             } else {
                 Ok(found)
             }
         }
-        Some(_) => wrong_part_problem(alloc, path, head, parts),
+        Some(_) => wrong_expression_part_problem(alloc, path, head, parts),
         None if is_bool_state_or_result_word(head) || is_integer(word) => value_as_head_problem(
             alloc,
             path,
@@ -259,7 +265,7 @@ fn malformed_expression_node_problem(
 }
 
 /// The problem of a node without trees.
-fn empty_node_problem(alloc: Global, has_maps: bool, path: &[usize]) -> FoundProblem {
+fn empty_expression_node_problem(alloc: Global, has_maps: bool, path: &[usize]) -> FoundProblem {
     let hint = if has_maps {
         "hint: an empty list is `(list T)`, an empty map is `(map K V)`"
     } else {
@@ -281,7 +287,7 @@ fn not_an_expression_problem(
         Form::Node(parts) => parts.as_slice(),
     };
     let Some((first, parts)) = parts.split_first() else {
-        return empty_node_problem(alloc, has_maps, path);
+        return empty_expression_node_problem(alloc, has_maps, path);
     };
     match word_of(first) {
         Some(word) => malformed_expression_node_problem(alloc, has_maps, path, word, parts),
@@ -290,7 +296,7 @@ fn not_an_expression_problem(
 }
 
 /// The problem of a comprehension or a tuple with too many parts. `path` leads to it.
-fn too_many_clauses_or_items_problem(
+fn problem_of_too_many_clauses_or_items(
     alloc: Global,
     path: &[usize],
     parts: &[Form],
@@ -301,20 +307,24 @@ fn too_many_clauses_or_items_problem(
             let what = format_args!("the comprehension has {number} clauses, at most {MAX_PARTS}");
             problem_at_part(alloc, path, 1, what)
         }
-        _ => too_many_tuple_items_problem(alloc, path, parts),
+        _ => problem_of_too_many_tuple_items(alloc, path, parts),
     }
 }
 
 /// The problem of a tuple, or of the type of tuples, with too many items. `parts` are its parts, its head
 /// among them.
-pub fn too_many_tuple_items_problem(alloc: Global, path: &[usize], parts: &[Form]) -> FoundProblem {
+pub fn problem_of_too_many_tuple_items(
+    alloc: Global,
+    path: &[usize],
+    parts: &[Form],
+) -> FoundProblem {
     let number = parts.len().saturating_sub(1);
     let what = format_args!("the tuple has {number} items, at most {MAX_PARTS}");
     problem_at(alloc, path, what)
 }
 
 /// The problem of an expression that passes a limit, apart from that of its depth.
-fn expression_over_limit_problem(alloc: Global, path: &[usize], form: &Form) -> FoundProblem {
+fn problem_of_expression_over_limit(alloc: Global, path: &[usize], form: &Form) -> FoundProblem {
     match form {
         Form::Word(word) => {
             let name = word.as_str();
@@ -329,12 +339,12 @@ fn expression_over_limit_problem(alloc: Global, path: &[usize], form: &Form) -> 
             let what = format_args!("the text has {length} bytes, at most {LIMIT}");
             problem_at(alloc, path, what)
         }
-        Form::Node(parts) => too_many_clauses_or_items_problem(alloc, path, parts.as_slice()),
+        Form::Node(parts) => problem_of_too_many_clauses_or_items(alloc, path, parts.as_slice()),
     }
 }
 
 /// The problem of an expression with the fault `kind`.
-pub fn expression_problem(
+pub fn refused_expression_problem(
     alloc: Global,
     has_maps: bool,
     path: &[usize],
@@ -342,12 +352,12 @@ pub fn expression_problem(
     kind: FaultKind,
 ) -> FoundProblem {
     match kind {
-        FaultKind::OverLimit => expression_over_limit_problem(alloc, path, form),
+        FaultKind::OverLimit => problem_of_expression_over_limit(alloc, path, form),
         _ => not_an_expression_problem(alloc, has_maps, path, form),
     }
 }
 
 /// The problem of an expression that is nested too deep.
-pub fn deep_expression_problem(alloc: Global, path: &[usize]) -> FoundProblem {
+pub fn too_deep_expression_problem(alloc: Global, path: &[usize]) -> FoundProblem {
     problem_at(alloc, path, "expressions are nested more than 64 deep")
 }

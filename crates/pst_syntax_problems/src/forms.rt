@@ -274,7 +274,7 @@ fn find_headed_form(rows: &[HeadedForm], word: &str) -> Option<HeadedForm> {
 }
 
 /// The form of expressions with the head `word`. The forms of maps count only if `has_maps`.
-pub fn expression_form(has_maps: bool, word: &str) -> Option<HeadedForm> {
+pub fn find_expression_form(has_maps: bool, word: &str) -> Option<HeadedForm> {
     if let Some(form) = find_headed_form(&EXPRESSIONS, word) {
         return Some(form);
     }
@@ -286,7 +286,7 @@ pub fn expression_form(has_maps: bool, word: &str) -> Option<HeadedForm> {
 }
 
 /// The form of types with the head `word`.
-pub fn type_form(word: &str) -> Option<HeadedForm> {
+pub fn find_type_form(word: &str) -> Option<HeadedForm> {
     find_headed_form(&TYPES, word)
 }
 
@@ -296,12 +296,15 @@ pub fn is_head_of_map_form(word: &str) -> bool {
 }
 
 /// Whether a word heads a form, a clause or a type.
-pub fn is_known_head_word(has_maps: bool, word: &str) -> bool {
-    expression_form(has_maps, word).is_some() || word == "ref" || word == "in" || word == "when"
+pub fn is_expression_clause_or_type_head(has_maps: bool, word: &str) -> bool {
+    find_expression_form(has_maps, word).is_some()
+        || word == "ref"
+        || word == "in"
+        || word == "when"
 }
 
 /// The second column of the row that begins with `word`.
-fn find_second_column(rows: &[(&'static str, &'static str)], word: &str) -> Option<&'static str> {
+fn find_hint_in_table(rows: &[(&'static str, &'static str)], word: &str) -> Option<&'static str> {
     for row in rows {
         if row.0 == word {
             return Some(row.1);
@@ -315,11 +318,11 @@ pub fn hint_for_foreign_word(word: &str) -> Option<&'static str> {
     if word.starts_with("//") || word == "#" {
         return Some("a comment begins with `;`");
     }
-    find_second_column(&FOREIGN, word)
+    find_hint_in_table(&FOREIGN, word)
 }
 
 /// The nearest to `name` among the head words of `rows`, or `nearer` if none of them is nearer.
-fn nearer_head_word(
+fn nearest_head_word_so_far(
     alloc: Global,
     rows: &'static [HeadedForm],
     name: &str,
@@ -327,7 +330,7 @@ fn nearer_head_word(
 ) -> Result<NearestNameSoFar<'static>, AllocError> {
     let mut near = nearer;
     for row in rows {
-        near = near.or(alloc, row.word, name)?;
+        near = near.or_nearer_candidate(alloc, row.word, name)?;
     }
     Ok(near)
 }
@@ -338,14 +341,14 @@ pub fn nearest_expression_head_hint(
     has_maps: bool,
     name: &str,
 ) -> Result<Option<DidYouMean<'static>>, AllocError> {
-    let near = nearer_head_word(
+    let near = nearest_head_word_so_far(
         alloc,
         EXPRESSIONS.as_slice(),
         name,
-        NearestNameSoFar::to(name),
+        NearestNameSoFar::without_candidates(name),
     )?;
     let near = if has_maps {
-        nearer_head_word(alloc, MAPS.as_slice(), name, near)?
+        nearest_head_word_so_far(alloc, MAPS.as_slice(), name, near)?
     } else {
         near
     };

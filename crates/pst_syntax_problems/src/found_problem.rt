@@ -90,7 +90,11 @@ pub fn strip_single_quotes(word: &str) -> Option<&str> {
 }
 
 /// The problem `found` of `word`, with a hint if the word begins a text in single quotes.
-pub fn with_quotes_hint(alloc: Global, found: Option<Problem>, word: &str) -> FoundProblem {
+pub fn with_hint_if_opens_single_quote(
+    alloc: Global,
+    found: Option<Problem>,
+    word: &str,
+) -> FoundProblem {
     if let Some(text) = strip_single_quotes(word) {
         let hint = format_args!("hint: a text is in double quotes: `\"{text}\"`");
         return with_note(alloc, found, hint);
@@ -129,7 +133,7 @@ fn meaning_of_reserved_name(name: &str) -> &'static str {
 }
 
 /// The problem of `word` where it is declared and is no valid name there.
-pub fn bad_name_problem(alloc: Global, path: &[usize], word: &Text) -> FoundProblem {
+pub fn problem_of_bad_name(alloc: Global, path: &[usize], word: &Text) -> FoundProblem {
     let name = word.as_str();
     if is_capitalized_name(name) {
         return problem_with_note(alloc, path, format_args!("`{name}` is not a name"), CAPITAL);
@@ -148,7 +152,7 @@ pub fn bad_name_problem(alloc: Global, path: &[usize], word: &Text) -> FoundProb
 }
 
 /// Returns the problem of `word`, a name with too many bytes.
-pub fn long_name_problem(alloc: Global, path: &[usize], word: &Text) -> FoundProblem {
+pub fn problem_of_too_long_name(alloc: Global, path: &[usize], word: &Text) -> FoundProblem {
     let length = word.len();
     let what = format_args!("the name has {length} bytes, at most {MAX_NAME}");
     problem_at(alloc, path, what)

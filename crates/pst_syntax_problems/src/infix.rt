@@ -15,7 +15,7 @@ pub const ASSIGNMENT: &str =
     "hint: there is no assignment: write `(next v)`, where `v` is the new state";
 
 /// The operator of this language that `operator` means.
-fn operator_meant(operator: &str) -> Option<&str> {
+fn model_operator_meant_by(operator: &str) -> Option<&str> {
     match operator {
         "+" | "-" | "*" | "++" | "<" | "<=" | "=" | "and" | "or" | "div" | "rem" => Some(operator),
         "==" => Some("="),
@@ -28,8 +28,8 @@ fn operator_meant(operator: &str) -> Option<&str> {
 }
 
 /// Whether a word is an operator of this or of another language.
-pub fn is_operator(word: &str) -> bool {
-    matches!(word, ">" | ">=" | "!=") || operator_meant(word).is_some()
+pub fn is_model_or_foreign_operator(word: &str) -> bool {
+    matches!(word, ">" | ">=" | "!=") || model_operator_meant_by(word).is_some()
 }
 
 /// The rank of an operator: those of rank 0 are applied first.
@@ -44,7 +44,7 @@ fn precedence_rank_of_operator(operator: &str) -> usize {
 }
 
 /// How `operator` is applied to `left` and `right`, if it is an operator of this or of another language.
-fn application_text(
+fn operator_application_text(
     alloc: Global,
     operator: &str,
     left: &str,
@@ -54,7 +54,7 @@ fn application_text(
         ">" => Ok(Some(format!(in alloc; "(< {right} {left})")?)),
         ">=" => Ok(Some(format!(in alloc; "(<= {right} {left})")?)),
         "!=" => Ok(Some(format!(in alloc; "(not (= {left} {right}))")?)),
-        _ => match operator_meant(operator) {
+        _ => match model_operator_meant_by(operator) {
             Some(head) => Ok(Some(format!(in alloc; "({head} {left} {right})")?)),
             None => Ok(None),
         },
@@ -96,7 +96,7 @@ fn operands_with_operators_before<'a>(
 }
 
 /// The operand that the operator of `right` makes of the operand of `left` and its own.
-fn link_after_applying_operator<'a>(
+fn operand_after_applying_operator<'a>(
     alloc: Global,
     left: Option<OperandAfterOperator<'a>>,
     right: OperandAfterOperator<'a>,
@@ -105,7 +105,7 @@ fn link_after_applying_operator<'a>(
         return Ok(None);
     };
     let (first, second) = (left.operand.as_str(), right.operand.as_str());
-    match application_text(alloc, right.operator, first, second)? {
+    match operator_application_text(alloc, right.operator, first, second)? {
         Some(operand) => Ok(Some(OperandAfterOperator {
             operator: left.operator,
             operand,
@@ -115,7 +115,7 @@ fn link_after_applying_operator<'a>(
 }
 
 /// The operands after the operators of `rank` are applied, from left to right. `None` if one of them is no operator.
-fn links_after_applying_rank<'a>(
+fn operands_after_applying_operators_of_rank<'a>(
     alloc: Global,
     links: Vec<OperandAfterOperator<'a>>,
     rank: usize,
@@ -126,7 +126,7 @@ fn links_after_applying_rank<'a>(
             applied.push(link)?;
             continue;
         }
-        match link_after_applying_operator(alloc, applied.pop(), link)? {
+        match operand_after_applying_operator(alloc, applied.pop(), link)? {
             Some(link) => applied.push(link)?,
             None => return Ok(None),
         }
@@ -147,7 +147,7 @@ pub fn operator_first_text_of_infix_parts(
         return Ok(None);
     };
     for rank in 0..RANKS {
-        let Some(applied) = links_after_applying_rank(alloc, links, rank)? else {
+        let Some(applied) = operands_after_applying_operators_of_rank(alloc, links, rank)? else {
             return Ok(None);
         };
         links = applied;

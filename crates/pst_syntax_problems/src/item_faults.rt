@@ -10,25 +10,26 @@ ghost use Rattle.pst_syntax.specs.Faults.{name_faults};
 ghost use Rattle.pst_syntax.specs.ShownItems.{shown_item_option};
 ghost use Rattle.pst_syntax.specs.declared.fault.FaultKind.TheVariants.{DoubleName, OverLimit};
 
-use crate::callback_faults::add_callbacks_faults;
+use crate::callback_faults::add_faults_of_callbacks_and_missing_ones;
 use crate::fault::Role;
-use crate::param_faults::add_params_faults;
+use crate::param_faults::add_parameter_list_faults;
 use crate::seen_items::{
-    has_command, has_function_named, has_init, has_operation_named, has_room_for_function,
-    has_room_for_operation, has_state,
+    has_command_item_shape, has_function_named, has_init_item_shape, has_operation_named,
+    has_room_for_function, has_room_for_operation, has_state_item_shape,
 };
 use crate::telling::{
-    AddingResult, DeclaredName, FaultSearch, Faults, push_fault, push_fault_unless,
+    AddingResult, DeclaredName, FaultSearch, Faults, push_fault_unless, push_fault_within_limit,
     push_name_faults_at_part,
 };
 use crate::whole_faults::{
-    add_outermost_expr_faults, add_outermost_type_faults, add_single_expression_faults,
+    add_outermost_expression_faults, add_outermost_type_faults,
+    add_repetition_and_expression_faults,
 };
 use pst_sexpr::Form;
 use pst_syntax::{FaultKind, FunShape, ItemShape, OpShape, is_name, is_unreserved_name};
 
 /// Adds the faults of the state at `path`. `has_one` is true if there was a state before it.
-fn add_state_faults(
+fn add_state_item_faults(
     walk: FaultSearch,
     faults: &mut Faults,
     path: &[usize],
@@ -48,7 +49,7 @@ fn add_state_faults(
 /// Adds the faults of a function or an operation at `path`, apart from its body or its callbacks. `has_room`
 /// says whether the model may have one more. The parts of the item are parameters of their own, since functions and
 /// operations have them in common, and nothing else.
-fn add_declaration_faults(
+fn add_signature_and_limit_faults(
     walk: FaultSearch,
     faults: &mut Faults,
     path: &[usize],
@@ -66,14 +67,14 @@ fn add_declaration_faults(
     let role = Role::Item;
     push_fault_unless(walk, faults, path, role, has_room, FaultKind::OverLimit)?;
     push_name_faults_at_part(walk, faults, path, 1, Role::ItemName, name)?;
-    add_params_faults(walk, faults, path, forms)?;
+    add_parameter_list_faults(walk, faults, path, forms)?;
     add_outermost_type_faults(walk, faults, path, 3, ty)?;
     Ok(())
 }
 
 /// Adds the faults of a function at `path`, after the items `seen`.
 #[tactic(auto, using(crate::proofs::Keeping::keeping))]
-fn add_fun_faults(
+fn add_function_faults(
     walk: FaultSearch,
     faults: &mut Faults,
     seen: &[Option<ItemShape<'_>>],
@@ -89,7 +90,7 @@ fn add_fun_faults(
         is_taken: has_function_named(seen, shape.name),
     };
     let has_room = has_room_for_function(seen);
-    add_declaration_faults(
+    add_signature_and_limit_faults(
         walk,
         faults,
         path,
@@ -98,13 +99,13 @@ fn add_fun_faults(
         shape.params,
         shape.result,
     )?;
-    add_outermost_expr_faults(walk, faults, path, 4, shape.body)?;
+    add_outermost_expression_faults(walk, faults, path, 4, shape.body)?;
     Ok(())
 }
 
 /// Adds the faults of an operation at `path`, after the items `seen`.
 #[tactic(auto, using(crate::proofs::Keeping::keeping))]
-fn add_op_faults(
+fn add_operation_faults(
     walk: FaultSearch,
     faults: &mut Faults,
     seen: &[Option<ItemShape<'_>>],
@@ -120,7 +121,7 @@ fn add_op_faults(
         is_taken: has_operation_named(seen, shape.name),
     };
     let has_room = has_room_for_operation(seen);
-    add_declaration_faults(
+    add_signature_and_limit_faults(
         walk,
         faults,
         path,
@@ -129,7 +130,7 @@ fn add_op_faults(
         shape.params,
         shape.result,
     )?;
-    add_callbacks_faults(walk, faults, path, shape.callbacks)?;
+    add_faults_of_callbacks_and_missing_ones(walk, faults, path, shape.callbacks)?;
     Ok(())
 }
 
@@ -148,26 +149,32 @@ pub fn add_item_faults(
 {
     let role = Role::Item;
     match shape {
-        Some(ItemShape::State(ty)) => add_state_faults(walk, faults, path, has_state(seen), ty)?,
-        Some(ItemShape::Init(value)) => add_single_expression_faults(
+        Some(ItemShape::State(ty)) => add_state_item_faults(
+            walk,
+            faults,
+            path,
+            has_state_item_shape(seen),
+            ty,
+        )?,
+        Some(ItemShape::Init(value)) => add_repetition_and_expression_faults(
             walk,
             faults,
             role,
             path,
-            has_init(seen),
+            has_init_item_shape(seen),
             value,
         )?,
-        Some(ItemShape::Command(calls)) => add_single_expression_faults(
+        Some(ItemShape::Command(calls)) => add_repetition_and_expression_faults(
             walk,
             faults,
             role,
             path,
-            has_command(seen),
+            has_command_item_shape(seen),
             calls,
         )?,
-        Some(ItemShape::Fun(shape)) => add_fun_faults(walk, faults, seen, path, shape)?,
-        Some(ItemShape::Op(shape)) => add_op_faults(walk, faults, seen, path, shape)?,
-        None => push_fault(walk, faults, path, role, FaultKind::UnknownForm)?,
+        Some(ItemShape::Fun(shape)) => add_function_faults(walk, faults, seen, path, shape)?,
+        Some(ItemShape::Op(shape)) => add_operation_faults(walk, faults, seen, path, shape)?,
+        None => push_fault_within_limit(walk, faults, path, role, FaultKind::UnknownForm)?,
     }
     Ok(())
 }

@@ -42,12 +42,12 @@ pub const OPERATION: &str = "an operation is `(op NAME ((p T) ..) T (pre E) (nex
 pub const CALLS: &str = "hint: write a list of calls: `(command (list call (call a) (call b)))`";
 
 /// Whether `head` heads a callback.
-pub fn is_callback(head: &str) -> bool {
+pub fn is_callback_head(head: &str) -> bool {
     matches!(head, "pre" | "next" | "post")
 }
 
 /// The form of the items with the head `head`.
-pub fn item_form(head: &str) -> Option<ItemForm> {
+pub fn find_item_form(head: &str) -> Option<ItemForm> {
     for form in ITEM_FORMS.as_slice() {
         if form.head == head {
             return Some(*form);

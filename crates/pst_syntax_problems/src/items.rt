@@ -6,11 +6,12 @@ use crate::found_problem::{
     problem_with_note_at_part, with_note,
 };
 use crate::infix::{
-    ASSIGNMENT, assigned_trees_if_assignment, is_operator, operator_first_text_of_infix_parts,
-    operators_come_first_phrase,
+    ASSIGNMENT, assigned_trees_if_assignment, is_model_or_foreign_operator,
+    operator_first_text_of_infix_parts, operators_come_first_phrase,
 };
 use crate::item_forms::{
-    CALLS, ITEM_FORMS, ItemForm, OPERATION, is_callback, item_form, item_head_for_foreign_word,
+    CALLS, ITEM_FORMS, ItemForm, OPERATION, find_item_form, is_callback_head,
+    item_head_for_foreign_word,
 };
 use crate::names::{DidYouMean, NearestNameSoFar, push_name};
 use crate::problem::{Problem, path_to_part};
@@ -27,14 +28,14 @@ const ITEMS: &str =
     "items are (state ..), (init ..), (command ..), (fun ..), (postfun ..) and (op ..)";
 
 /// The problem of a tree whose head `head` heads no item.
-fn unknown_item_head_problem(alloc: Global, path: &[usize], head: &str) -> FoundProblem {
+fn unknown_model_item_head_problem(alloc: Global, path: &[usize], head: &str) -> FoundProblem {
     let what = format_args!("no item of a model begins with `{head}`");
     if let Some(meant) = item_head_for_foreign_word(head) {
         return problem_with_note_at_part(alloc, path, 0, what, DidYouMean(meant));
     }
-    let mut near = NearestNameSoFar::to(head);
+    let mut near = NearestNameSoFar::without_candidates(head);
     for form in ITEM_FORMS.as_slice() {
-        near = near.or(alloc, form.head, head)?;
+        near = near.or_nearer_candidate(alloc, form.head, head)?;
     }
     match near.hint() {
         Some(hint) => problem_with_note_at_part(alloc, path, 0, what, hint),
@@ -43,9 +44,9 @@ fn unknown_item_head_problem(alloc: Global, path: &[usize], head: &str) -> Found
 }
 
 /// The problem of a tree that is no item.
-fn not_an_item_problem(alloc: Global, path: &[usize], form: &Form) -> FoundProblem {
+fn not_a_model_item_problem(alloc: Global, path: &[usize], form: &Form) -> FoundProblem {
     if let Some(head) = head_word_of_node(form) {
-        return unknown_item_head_problem(alloc, path, head.as_str());
+        return unknown_model_item_head_problem(alloc, path, head.as_str());
     }
     let shown = shortened_tree_text(alloc, form)?;
     let shown = shown.as_str();
@@ -57,7 +58,7 @@ fn not_an_item_problem(alloc: Global, path: &[usize], form: &Form) -> FoundProbl
 }
 
 /// The problem of an item with `number` parts, which is not the right number.
-fn item_part_count_problem(
+fn problem_of_wrong_item_part_count(
     alloc: Global,
     path: &[usize],
     form: ItemForm,
@@ -73,7 +74,7 @@ fn item_part_count_problem(
 }
 
 /// The problem of a function or an operation whose name is no word, or else whose parameters are no list.
-fn signature_problem(
+fn missing_name_or_parameters_problem(
     alloc: Global,
     path: &[usize],
     form: ItemForm,
@@ -96,24 +97,29 @@ fn signature_problem(
 /// The form of an item, and its parts after its head.
 fn item_form_and_parts(item: &Form) -> Option<(ItemForm, &[Form])> {
     let (_, parts) = node_of(item)?.split_first()?;
-    Some((item_form(head_word_of_node(item)?.as_str())?, parts))
+    Some((find_item_form(head_word_of_node(item)?.as_str())?, parts))
 }
 
 /// The problem of a tree that has the form of no item.
-fn item_form_problem(alloc: Global, path: &[usize], item: &Form) -> FoundProblem {
+fn malformed_model_item_problem(alloc: Global, path: &[usize], item: &Form) -> FoundProblem {
     let Some((form, parts)) = item_form_and_parts(item) else {
-        return not_an_item_problem(alloc, path, item);
+        return not_a_model_item_problem(alloc, path, item);
     };
     let number = parts.len();
     if number == form.least || form.head == "op" && number > form.least {
-        signature_problem(alloc, path, form, parts)
+        missing_name_or_parameters_problem(alloc, path, form, parts)
     } else {
-        item_part_count_problem(alloc, path, form, number)
+        problem_of_wrong_item_part_count(alloc, path, form, number)
     }
 }
 
 /// The problem of an item with the fault `kind`.
-pub fn item_problem(alloc: Global, path: &[usize], item: &Form, kind: FaultKind) -> FoundProblem {
+pub fn refused_model_item_problem(
+    alloc: Global,
+    path: &[usize],
+    item: &Form,
+    kind: FaultKind,
+) -> FoundProblem {
     let head = match head_word_of_node(item) {
         Some(head) => head.as_str(),
         None => "",
@@ -127,19 +133,23 @@ pub fn item_problem(alloc: Global, path: &[usize], item: &Form, kind: FaultKind)
             let what = format_args!("the model has more than {MAX_DECLARED} items `{head}`");
             problem_at(alloc, path, what)
         }
-        _ => item_form_problem(alloc, path, item),
+        _ => malformed_model_item_problem(alloc, path, item),
     }
 }
 
 /// The problem of a list of too many parameters.
-pub fn too_many_parameters_problem(alloc: Global, path: &[usize], params: &Form) -> FoundProblem {
+pub fn problem_of_too_many_parameters(
+    alloc: Global,
+    path: &[usize],
+    params: &Form,
+) -> FoundProblem {
     let number = node_of(params).unwrap_or(&[]).len();
     let what = format_args!("there are {number} parameters, at most {MAX_PARTS}");
     problem_at(alloc, path, what)
 }
 
 /// The problem of a tree that is no parameter.
-pub fn parameter_problem(alloc: Global, path: &[usize], form: &Form) -> FoundProblem {
+pub fn malformed_parameter_problem(alloc: Global, path: &[usize], form: &Form) -> FoundProblem {
     let what = "a parameter is `(NAME TYPE)`";
     match node_of(form) {
         Some([_, _]) => missing_name_problem(alloc, path_to_part(path, alloc, 0)?.as_slice()),
@@ -175,7 +185,7 @@ impl fmt::Display for CallbackPartCountNote<'_> {
 const OPERATORS: &str = "hint: operators come first, in brackets: `(= a (+ b c))`";
 
 /// The hint on the parts of the callback `head`, if they are an assignment.
-fn assignment_hint(
+fn hint_if_callback_assigns(
     alloc: Global,
     head: &str,
     parts: &[Form],
@@ -206,7 +216,9 @@ fn operator_or_foreign_word_hint(
             let first = operators_come_first_phrase(parts);
             Ok(Some(format!(in alloc; "hint: write `({head} {written})`: {first}")?))
         }
-        None if is_operator(operator.as_str()) => Ok(Some(String::from_str(alloc, OPERATORS)?)),
+        None if is_model_or_foreign_operator(operator.as_str()) => Ok(Some(String::from_str(
+            alloc, OPERATORS,
+        )?)),
         None => match hint_for_foreign_word(operator.as_str()) {
             Some(hint) => Ok(Some(format!(in alloc; "hint: {hint}")?)),
             None => Ok(None),
@@ -215,7 +227,7 @@ fn operator_or_foreign_word_hint(
 }
 
 /// The problem of a callback that has not one expression. `parts` are the parts after its head.
-fn callback_part_count_problem(
+fn problem_of_wrong_callback_part_count(
     alloc: Global,
     path: &[usize],
     head: &str,
@@ -224,7 +236,7 @@ fn callback_part_count_problem(
     let has = parts.len();
     let what = format_args!("`{head}` takes 1 part, here it has {has}");
     let found = problem_at(alloc, path, what)?;
-    if let Some(hint) = assignment_hint(alloc, head, parts)? {
+    if let Some(hint) = hint_if_callback_assigns(alloc, head, parts)? {
         return with_note(alloc, found, hint);
     }
     match operator_or_foreign_word_hint(alloc, head, parts)? {
@@ -234,7 +246,7 @@ fn callback_part_count_problem(
 }
 
 /// The problem of a callback with the fault `kind`.
-pub fn callback_problem(
+pub fn refused_callback_problem(
     alloc: Global,
     path: &[usize],
     form: &Form,
@@ -246,7 +258,7 @@ pub fn callback_problem(
             let what = format_args!("the operation has two callbacks `{head}`");
             problem_at(alloc, path, what)
         }
-        (_, Some(head)) if is_callback(head.as_str()) => callback_part_count_problem(
+        (_, Some(head)) if is_callback_head(head.as_str()) => problem_of_wrong_callback_part_count(
             alloc,
             path,
             head.as_str(),

@@ -2,7 +2,7 @@
 //!
 //! `model_syntax_faults` finds the faults of a model text, each with the path to the refused part and with what that
 //! part has to be. Its contract says that it returns the faults of the definition, in their order, and `laws`
-//! says that the reader refuses the text for the first of them. `model_syntax_problems` words them. The words are
+//! says that the reader refuses the text for the first of them. `first_model_syntax_problems` words them. The words are
 //! tested, not proved: the proofs only say that the code terminates and does nothing unsafe.
 //!
 //! `AllocError` means that an allocation failed.
@@ -38,8 +38,8 @@ mod writing;
 
 pub use fault::{FormFault, Role};
 pub use forms::{
-    HeadedForm, expression_form, hint_for_foreign_word, is_head_of_map_form, is_known_head_word,
-    nearest_expression_head_hint, type_form,
+    HeadedForm, find_expression_form, find_type_form, hint_for_foreign_word,
+    is_expression_clause_or_type_head, is_head_of_map_form, nearest_expression_head_hint,
 };
 pub use found_problem::{
     CAPITAL, FoundProblem, is_capitalized_name, problem_at, problem_at_part,
@@ -50,10 +50,10 @@ pub use model_faults::model_syntax_faults;
 pub use names::{DidYouMean, NearestNameSoFar, nearest_known_name_hint, push_name};
 pub use operations::{find_operation, unknown_operation_or_function_problem};
 pub use problem::{MOST_PROBLEMS, Problem, path_to_part};
-pub use syntax::model_syntax_problems;
+pub use syntax::first_model_syntax_problems;
 pub use tree::{has_head, head_word_or_empty};
-pub use type_slips::with_call_or_assignment_hint;
+pub use type_slips::{with_call_or_assignment_hint_if_meant, with_note_instead_of_others};
 pub use writing::{
     CommaSeparatedNames, CountedNoun, FormText, SignatureText, TypeText, counted_noun,
-    key_type_word, shortened_tree_text,
+    key_type_word, shortened_tree_text, write_quoted_and_escaped,
 };

@@ -15,17 +15,17 @@ use crate::item_faults::add_item_faults;
 use crate::problem::path_to_part;
 use crate::seen_items::has_required_items;
 use crate::telling::{
-    AddingResult, DeclaredName, FaultSearch, Faults, push_fault, push_fault_unless,
+    AddingResult, DeclaredName, FaultSearch, Faults, push_fault_unless, push_fault_within_limit,
     push_name_faults_at_part,
 };
 use pst_sexpr::{Form, Tree};
-use pst_syntax::{FaultKind, MAX_TREES, is_name, item_shape, model_shape, room_after};
+use pst_syntax::{FaultKind, MAX_TREES, is_name, item_shape, model_shape, room_left_after_tree};
 use pst_value::Items;
 use std::alloc::{AllocError, Global};
 
 /// Adds the faults of the items, which are the parts from 2 on of the tree at `path`.
 #[tactic(auto, using(crate::proofs::Keeping::keeping))]
-fn add_items_faults(
+fn add_faults_of_items_and_missing_ones(
     walk: FaultSearch,
     faults: &mut Faults,
     path: &[usize],
@@ -64,7 +64,7 @@ fn add_model_faults_except_tree_count(
         (spec.named_faults_at path.now (model_shape form.now))) }
 {
     let Some(shape) = model_shape(form) else {
-        return push_fault(walk, faults, path, Role::Model, FaultKind::UnknownForm);
+        return push_fault_within_limit(walk, faults, path, Role::Model, FaultKind::UnknownForm);
     };
     let walk = FaultSearch {
         has_maps: shape.has_maps,
@@ -76,15 +76,15 @@ fn add_model_faults_except_tree_count(
         is_taken: false,
     };
     push_name_faults_at_part(walk, faults, path, 1, Role::ModelName, name)?;
-    add_items_faults(walk, faults, path, shape.items)?;
+    add_faults_of_items_and_missing_ones(walk, faults, path, shape.items)?;
     Ok(())
 }
 
 /// Whether a model has no more trees than it may have.
-fn is_within_tree_limit(form: &Form) -> bool
+fn is_model_within_tree_limit(form: &Form) -> bool
     ensures { result ≡ nat_le (trees_in form.now) max_trees }
 {
-    room_after(form, MAX_TREES).is_some()
+    room_left_after_tree(form, MAX_TREES).is_some()
 }
 
 /// Adds the faults of the model at `path`.
@@ -99,7 +99,7 @@ fn add_model_faults(
         (unless_at path.now role.Model (nat_le (trees_in form.now) max_trees) OverLimit
         (spec.named_faults_at path.now (model_shape form.now)))) }
 {
-    let are_few = is_within_tree_limit(form);
+    let are_few = is_model_within_tree_limit(form);
     push_fault_unless(
         walk,
         faults,
@@ -123,7 +123,7 @@ fn add_first_tree_faults_or_missing(
 {
     match trees {
         [] => {
-            push_fault(walk, faults, &[], Role::Model, FaultKind::Missing)?;
+            push_fault_within_limit(walk, faults, &[], Role::Model, FaultKind::Missing)?;
             Ok(())
         }
         [tree, ..] => {

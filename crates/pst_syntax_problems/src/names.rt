@@ -27,7 +27,7 @@ pub struct NearestNameSoFar<'a> {
 
 impl<'a> NearestNameSoFar<'a> {
     /// No candidate yet.
-    pub fn to(name: &str) -> NearestNameSoFar<'a> {
+    pub fn without_candidates(name: &str) -> NearestNameSoFar<'a> {
         NearestNameSoFar {
             limit: 3.min(name.len()),
             best: None,
@@ -35,7 +35,7 @@ impl<'a> NearestNameSoFar<'a> {
     }
 
     /// The nearest to `name` among the candidates so far and `candidate`.
-    pub fn or(
+    pub fn or_nearer_candidate(
         self,
         alloc: Global,
         candidate: &'a str,
@@ -68,9 +68,9 @@ pub fn nearest_known_name_hint<'a>(
     known: &'a Items<Text>,
     name: &str,
 ) -> Result<Option<DidYouMean<'a>>, AllocError> {
-    let mut near = NearestNameSoFar::to(name);
+    let mut near = NearestNameSoFar::without_candidates(name);
     for candidate in known.as_slice() {
-        near = near.or(alloc, candidate.as_str(), name)?;
+        near = near.or_nearer_candidate(alloc, candidate.as_str(), name)?;
     }
     Ok(near.hint())
 }

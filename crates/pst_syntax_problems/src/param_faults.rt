@@ -14,7 +14,7 @@ ghost use Rattle.pst_syntax.specs.ShownItems.{shown_param_option};
 use crate::fault::Role;
 use crate::problem::path_to_part;
 use crate::telling::{
-    AddingResult, DeclaredName, FaultSearch, Faults, push_fault, push_fault_unless,
+    AddingResult, DeclaredName, FaultSearch, Faults, push_fault_unless, push_fault_within_limit,
     push_name_faults_at_part,
 };
 use crate::whole_faults::add_outermost_type_faults;
@@ -42,7 +42,7 @@ fn has_parameter_named(seen: &[Option<ParamShape<'_>>], word: &Text) -> bool
 
 /// Adds the faults of the parameter at `path`, after the parameters `seen`.
 #[tactic(auto, using(crate::proofs::Keeping::keeping, crate::proofs::Seen::seen))]
-fn add_param_faults(
+fn add_parameter_faults(
     walk: FaultSearch,
     faults: &mut Faults,
     seen: &[Option<ParamShape<'_>>],
@@ -54,7 +54,7 @@ fn add_param_faults(
         (spec.param_faults_at walk.has_maps (params_in seen.now) path.now))) }
 {
     let Some(shape) = shape else {
-        return push_fault(walk, faults, path, Role::Parameter, FaultKind::UnknownForm);
+        return push_fault_within_limit(walk, faults, path, Role::Parameter, FaultKind::UnknownForm);
     };
     let name = DeclaredName {
         word: shape.name,
@@ -68,7 +68,7 @@ fn add_param_faults(
 
 /// Adds the faults of the parameters at `path`.
 #[tactic(auto, using(crate::proofs::Keeping::keeping))]
-fn add_each_parameter_faults(
+fn add_faults_of_each_parameter(
     walk: FaultSearch,
     faults: &mut Faults,
     path: &[usize],
@@ -85,7 +85,7 @@ fn add_each_parameter_faults(
         }
         let at = path_to_part(path, walk.alloc, number)?;
         let shape = param_shape(form);
-        add_param_faults(walk, faults, seen.as_slice(), at.as_slice(), &shape)?;
+        add_parameter_faults(walk, faults, seen.as_slice(), at.as_slice(), &shape)?;
         seen.push(shape)?;
         number += 1;
     }
@@ -94,7 +94,7 @@ fn add_each_parameter_faults(
 
 /// Adds the faults of a list of parameters, which is part 2 of the tree at `path`.
 #[tactic(auto, using(crate::proofs::Keeping::keeping))]
-pub fn add_params_faults(
+pub fn add_parameter_list_faults(
     walk: FaultSearch,
     faults: &mut Faults,
     path: &[usize],
@@ -108,6 +108,6 @@ pub fn add_params_faults(
     let role = Role::Parameters;
     let are_few = is_allowed_parameter_count(forms);
     push_fault_unless(walk, faults, path, role, are_few, FaultKind::OverLimit)?;
-    add_each_parameter_faults(walk, faults, path, forms)?;
+    add_faults_of_each_parameter(walk, faults, path, forms)?;
     Ok(())
 }

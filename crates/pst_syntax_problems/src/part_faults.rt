@@ -14,19 +14,19 @@ use crate::problem::path_to_part;
 use crate::telling::{
     AddingResult, DeclaredName, FaultSearch, Faults, push_fault_unless, push_name_faults_at_part,
 };
-use crate::type_faults::add_ty_part_faults;
-use pst_sexpr::{Form, value_of};
+use crate::type_faults::add_type_faults_at_part;
+use pst_sexpr::{Form, value_of_integer_word};
 use pst_syntax::{
     FaultKind, MAX_PARTS, MAX_TY_LEVELS, Shape, is_unreserved_name, is_usable_operation_name,
 };
 use pst_value::{LIMIT, Text};
 
 /// Whether an expression keeps to the limits besides that of its depth.
-pub fn is_expression_within_limits(shape: &Shape<'_>) -> bool
+pub fn is_expression_shape_within_limits(shape: &Shape<'_>) -> bool
     ensures { result ≡ fits (shown shape.now) }
 {
     match shape {
-        Shape::Integer(word) => value_of(word).is_some(),
+        Shape::Integer(word) => value_of_integer_word(word).is_some(),
         Shape::Quoted(text) => text.len() <= LIMIT,
         Shape::Tuple(items) => items.len() <= MAX_PARTS,
         Shape::For(clauses, _) => clauses.len() <= MAX_PARTS,
@@ -69,7 +69,7 @@ pub fn add_tuple_place_faults(
 {
     let path = path_to_part(path, walk.alloc, 2)?;
     let path = path.as_slice();
-    let fits = value_of(word).is_some();
+    let fits = value_of_integer_word(word).is_some();
     push_fault_unless(walk, faults, path, Role::Place, fits, FaultKind::OverLimit)
 }
 
@@ -106,6 +106,6 @@ pub fn add_map_value_type_faults(
     ensures { (e : spec.At) → OnOk result (faults.new ≡ keep walk.limit faults.old
         (all_at (spec.spot_in walk.has_maps e) (spots_from path.now 2 (OfType value.now ∷ [])))) }
 {
-    add_ty_part_faults(walk, faults, Role::Type, path, 2, value, MAX_TY_LEVELS)?;
+    add_type_faults_at_part(walk, faults, Role::Type, path, 2, value, MAX_TY_LEVELS)?;
     Ok(())
 }

@@ -11,7 +11,7 @@ use pst_syntax::{ItemShape, MAX_DECLARED};
 use pst_value::Text;
 
 /// Whether one of the items is the type of the state.
-pub fn has_state(seen: &[Option<ItemShape<'_>>]) -> bool
+pub fn has_state_item_shape(seen: &[Option<ItemShape<'_>>]) -> bool
     ensures { result ≡ list_any (λ shape. holds faults.is_state (shown_item_option shape)) seen.now }
 {
     seen.iter()
@@ -19,7 +19,7 @@ pub fn has_state(seen: &[Option<ItemShape<'_>>]) -> bool
 }
 
 /// Whether one of the items is the initial state.
-pub fn has_init(seen: &[Option<ItemShape<'_>>]) -> bool
+pub fn has_init_item_shape(seen: &[Option<ItemShape<'_>>]) -> bool
     ensures { result ≡ list_any (λ shape. holds faults.is_init (shown_item_option shape)) seen.now }
 {
     seen.iter()
@@ -27,7 +27,7 @@ pub fn has_init(seen: &[Option<ItemShape<'_>>]) -> bool
 }
 
 /// Whether one of the items is the list of calls to pick from.
-pub fn has_command(seen: &[Option<ItemShape<'_>>]) -> bool
+pub fn has_command_item_shape(seen: &[Option<ItemShape<'_>>]) -> bool
     ensures { result ≡ list_any (λ shape. holds faults.is_command (shown_item_option shape)) seen.now }
 {
     seen.iter()
@@ -40,7 +40,7 @@ pub fn has_required_items(seen: &[Option<ItemShape<'_>>]) -> bool
         && list_any (λ shape. holds faults.is_init (shown_item_option shape)) seen.now
         && list_any (λ shape. holds faults.is_command (shown_item_option shape)) seen.now) }
 {
-    has_state(seen) && has_init(seen) && has_command(seen)
+    has_state_item_shape(seen) && has_init_item_shape(seen) && has_command_item_shape(seen)
 }
 
 /// Whether there is room for one more function.
@@ -65,7 +65,7 @@ pub fn has_room_for_operation(seen: &[Option<ItemShape<'_>>]) -> bool
     ops.count() < MAX_DECLARED
 }
 
-fn is_fun_named(shape: &Option<ItemShape<'_>>, word: &Text) -> bool
+fn is_function_shape_named(shape: &Option<ItemShape<'_>>, word: &Text) -> bool
     ensures { result ≡ holds (faults.is_fun_named word.now) (shown_item_option shape.now) }
 {
     match shape {
@@ -74,7 +74,7 @@ fn is_fun_named(shape: &Option<ItemShape<'_>>, word: &Text) -> bool
     }
 }
 
-fn is_op_named(shape: &Option<ItemShape<'_>>, word: &Text) -> bool
+fn is_operation_shape_named(shape: &Option<ItemShape<'_>>, word: &Text) -> bool
     ensures { result ≡ holds (faults.is_op_named word.now) (shown_item_option shape.now) }
 {
     match shape {
@@ -88,7 +88,8 @@ pub fn has_function_named(seen: &[Option<ItemShape<'_>>], word: &Text) -> bool
     ensures { result ≡
         list_any (λ shape. holds (faults.is_fun_named word.now) (shown_item_option shape)) seen.now }
 {
-    seen.iter().any(|shape| is_fun_named(shape, word))
+    seen.iter()
+        .any(|shape| is_function_shape_named(shape, word))
 }
 
 /// Whether one of the items is an operation with the name `word`.
@@ -96,5 +97,6 @@ pub fn has_operation_named(seen: &[Option<ItemShape<'_>>], word: &Text) -> bool
     ensures { result ≡
         list_any (λ shape. holds (faults.is_op_named word.now) (shown_item_option shape)) seen.now }
 {
-    seen.iter().any(|shape| is_op_named(shape, word))
+    seen.iter()
+        .any(|shape| is_operation_shape_named(shape, word))
 }

@@ -1,6 +1,6 @@
 //! Hints on what other languages write: operators between their operands, commas, fields and the like.
 
-use crate::forms::{expression_form, hint_for_foreign_word};
+use crate::forms::{find_expression_form, hint_for_foreign_word};
 use crate::found_problem::{FoundProblem, with_note};
 use crate::infix::{
     ASSIGNMENT, assigned_trees_if_assignment, is_foreign_word_for_new_state,
@@ -16,7 +16,7 @@ use std::alloc::{AllocError, Global};
 /// Whether a tree is a word that heads a form of expressions.
 fn is_word_heading_expressions(has_maps: bool, form: &Form) -> bool {
     match word_of(form) {
-        Some(word) => expression_form(has_maps, word.as_str()).is_some(),
+        Some(word) => find_expression_form(has_maps, word.as_str()).is_some(),
         None => false,
     }
 }
@@ -126,7 +126,11 @@ fn hint_for_first_malformed_part(forms: &[Form]) -> Option<&'static str> {
 
 /// The problem `found` of the tree `form`, with a hint if it is a word of another language or has one among
 /// its parts.
-pub fn with_foreign_word_hint(alloc: Global, form: &Form, found: Option<Problem>) -> FoundProblem {
+pub fn with_hint_if_malformed_word_or_part(
+    alloc: Global,
+    form: &Form,
+    found: Option<Problem>,
+) -> FoundProblem {
     let meant = match form {
         Form::Node(parts) => hint_for_first_malformed_part(parts.as_slice()),
         Form::Word(word) => hint_for_malformed_word(word),
@@ -139,7 +143,7 @@ pub fn with_foreign_word_hint(alloc: Global, form: &Form, found: Option<Problem>
 }
 
 /// The problem `found` without its notes.
-fn without_notes(found: Option<Problem>) -> Option<Problem> {
+fn problem_without_notes(found: Option<Problem>) -> Option<Problem> {
     match found {
         Some(mut problem) => {
             problem.notes.clear();
@@ -151,7 +155,7 @@ fn without_notes(found: Option<Problem>) -> Option<Problem> {
 
 /// The problem `found` of the expression at `path`, with a hint if the expression is a clause of a form that another
 /// language chooses with.
-fn with_conditional_clause_hint(
+fn with_hint_if_in_foreign_conditional(
     alloc: Global,
     model: &Form,
     path: &[usize],
@@ -185,7 +189,7 @@ fn is_headless_command_body(model: &Form, path: &[usize], form: &Form) -> bool {
 
 /// The problem `found` of the expression `form`, which `path` leads to, with a hint if it is written as in
 /// another language. A hint on an assignment, or on an operator between its operands, is the only note.
-pub fn with_foreign_syntax_hint(
+pub fn add_or_replace_notes_if_foreign_syntax(
     alloc: Global,
     has_maps: bool,
     model: &Form,
@@ -193,23 +197,23 @@ pub fn with_foreign_syntax_hint(
     form: &Form,
     found: Option<Problem>,
 ) -> FoundProblem {
-    let found = with_conditional_clause_hint(alloc, model, path, found)?;
+    let found = with_hint_if_in_foreign_conditional(alloc, model, path, found)?;
     if is_headless_command_body(model, path, form) {
         return with_note(alloc, found, CALLS);
     }
     let Some(parts) = parts_of_node_or_infix_parent(model, path, form) else {
-        return with_foreign_word_hint(alloc, form, found);
+        return with_hint_if_malformed_word_or_part(alloc, form, found);
     };
     if assigned_trees_if_assignment(false, parts).is_some() {
-        return with_note(alloc, without_notes(found), ASSIGNMENT);
+        return with_note(alloc, problem_without_notes(found), ASSIGNMENT);
     }
     match operator_first_text_of_all_or_three(alloc, has_maps, parts)? {
         Some(written) => {
             let written = written.as_str();
             let first = operators_come_first_phrase(parts);
             let hint = format_args!("hint: write `{written}`: {first}");
-            with_note(alloc, without_notes(found), hint)
+            with_note(alloc, problem_without_notes(found), hint)
         }
-        None => with_foreign_word_hint(alloc, form, found),
+        None => with_hint_if_malformed_word_or_part(alloc, form, found),
     }
 }

@@ -1,22 +1,27 @@
 //! Models that are refused for their form.
 
-use crate::expressions::{deep_expression_problem, expression_problem, tuple_place_problem};
+use crate::expressions::{
+    problem_of_bad_tuple_place, refused_expression_problem, too_deep_expression_problem,
+};
 use crate::fault::{FormFault, Role};
 use crate::found_problem::{
-    FoundProblem, bad_name_problem, long_name_problem, missing_name_problem,
-    missing_operation_name_problem, problem_at, problem_with_note, problem_with_note_at_part,
+    FoundProblem, missing_name_problem, missing_operation_name_problem, problem_at,
+    problem_of_bad_name, problem_of_too_long_name, problem_with_note, problem_with_note_at_part,
     push_problem_if_any,
 };
 use crate::items::{
-    callback_problem, item_problem, missing_callbacks_problem, not_a_comprehension_clause_problem,
-    parameter_problem, too_many_parameters_problem,
+    malformed_parameter_problem, missing_callbacks_problem, not_a_comprehension_clause_problem,
+    problem_of_too_many_parameters, refused_callback_problem, refused_model_item_problem,
 };
 use crate::model_faults::model_syntax_faults;
 use crate::names::{DidYouMean, NearestNameSoFar, push_name};
 use crate::problem::{MOST_PROBLEMS, Problem};
-use crate::slips::{with_foreign_syntax_hint, with_foreign_word_hint};
+use crate::slips::{add_or_replace_notes_if_foreign_syntax, with_hint_if_malformed_word_or_part};
 use crate::tree::{has_head, head_word_of_node};
-use crate::types::{deep_type_problem, item_type_problem, type_problem, with_parameter_order_hint};
+use crate::types::{
+    refused_list_item_type_problem, refused_type_problem, too_deep_type_problem,
+    with_hint_if_type_before_name,
+};
 use crate::writing::CommaSeparatedNames;
 use pst_sexpr::{Form, Tree, node_of, tree_in, word_of};
 use pst_syntax::{FaultKind, MAX_TREES};
@@ -24,7 +29,7 @@ use pst_value::Items;
 use std::alloc::{AllocError, Global};
 
 /// The problem of a model that lacks items.
-fn missing_items_problem(alloc: Global, items: &[Form]) -> FoundProblem {
+fn missing_model_items_problem(alloc: Global, items: &[Form]) -> FoundProblem {
     let mut names = Items::new(alloc);
     for word in ["state", "init", "command"] {
         if !items.iter().any(|item| has_head(item, word)) {
@@ -51,7 +56,9 @@ fn nearest_model_head_hint(
     if head.starts_with("model") || head.ends_with("model") {
         return Ok(Some(DidYouMean("model")));
     }
-    let near = NearestNameSoFar::to(head).or(alloc, "model", head)?;
+    let near = NearestNameSoFar::without_candidates(head).or_nearer_candidate(
+        alloc, "model", head,
+    )?;
     Ok(near.hint())
 }
 
@@ -101,9 +108,9 @@ fn not_a_model_problem(alloc: Global, form: &Form) -> FoundProblem {
 }
 
 /// The problem of a model with the fault `kind`, which is none of its parts.
-fn model_problem(alloc: Global, form: &Form, kind: FaultKind) -> FoundProblem {
+fn refused_whole_model_problem(alloc: Global, form: &Form, kind: FaultKind) -> FoundProblem {
     match kind {
-        FaultKind::Missing => missing_items_problem(alloc, node_of(form).unwrap_or(&[])),
+        FaultKind::Missing => missing_model_items_problem(alloc, node_of(form).unwrap_or(&[])),
         FaultKind::OverLimit => {
             let what = format_args!("the model has more than {MAX_TREES} trees");
             problem_at(alloc, &[0], what)
@@ -113,7 +120,7 @@ fn model_problem(alloc: Global, form: &Form, kind: FaultKind) -> FoundProblem {
 }
 
 /// The problem of a declared name with the fault `kind`.
-fn declared_name_problem(
+fn refused_declared_name_problem(
     alloc: Global,
     path: &[usize],
     form: &Form,
@@ -125,8 +132,8 @@ fn declared_name_problem(
     };
     let name = word.as_str();
     match (kind, role) {
-        (FaultKind::BadName, _) => bad_name_problem(alloc, path, word),
-        (FaultKind::OverLimit, _) => long_name_problem(alloc, path, word),
+        (FaultKind::BadName, _) => problem_of_bad_name(alloc, path, word),
+        (FaultKind::OverLimit, _) => problem_of_too_long_name(alloc, path, word),
         (_, Role::ParameterName) => {
             let what = format_args!("two parameters have the name `{name}`");
             problem_at(alloc, path, what)
@@ -153,28 +160,28 @@ fn model_fault_problem(
     let path = fault.path.as_slice();
     let has_maps = has_head(model, "model2");
     match role {
-        Role::Model => model_problem(alloc, form, kind),
-        Role::Item => item_problem(alloc, path, form, kind),
-        Role::Parameters => too_many_parameters_problem(alloc, path, form),
-        Role::Parameter => parameter_problem(alloc, path, form),
+        Role::Model => refused_whole_model_problem(alloc, form, kind),
+        Role::Item => refused_model_item_problem(alloc, path, form, kind),
+        Role::Parameters => problem_of_too_many_parameters(alloc, path, form),
+        Role::Parameter => malformed_parameter_problem(alloc, path, form),
         Role::Callbacks => missing_callbacks_problem(alloc, path, form),
-        Role::Callback => callback_problem(alloc, path, form, kind),
-        Role::Type => type_problem(alloc, has_maps, path, form, kind),
-        Role::ItemType => item_type_problem(alloc, has_maps, model, path, form, kind),
-        Role::DeepType => deep_type_problem(alloc, path),
-        Role::Expression => expression_problem(alloc, has_maps, path, form, kind),
-        Role::DeepExpression => deep_expression_problem(alloc, path),
+        Role::Callback => refused_callback_problem(alloc, path, form, kind),
+        Role::Type => refused_type_problem(alloc, has_maps, path, form, kind),
+        Role::ItemType => refused_list_item_type_problem(alloc, has_maps, model, path, form, kind),
+        Role::DeepType => too_deep_type_problem(alloc, path),
+        Role::Expression => refused_expression_problem(alloc, has_maps, path, form, kind),
+        Role::DeepExpression => too_deep_expression_problem(alloc, path),
         Role::Clause => not_a_comprehension_clause_problem(alloc, path),
-        Role::Place => tuple_place_problem(alloc, path, form),
+        Role::Place => problem_of_bad_tuple_place(alloc, path, form),
         Role::Operation => missing_operation_name_problem(alloc, path),
         Role::ModelName | Role::ItemName | Role::ParameterName | Role::Name => {
-            declared_name_problem(alloc, path, form, role, kind)
+            refused_declared_name_problem(alloc, path, form, role, kind)
         }
     }
 }
 
 /// The problem of `fault`, whose part is `form`, with a hint if it is written as in another language.
-fn fault_problem_with_hint(
+fn model_fault_problem_with_hint_if_foreign(
     alloc: Global,
     model: &Form,
     form: &Form,
@@ -184,13 +191,19 @@ fn fault_problem_with_hint(
     match (fault.kind, fault.role) {
         (FaultKind::UnknownForm, Role::Expression) => {
             let has_maps = has_head(model, "model2");
-            with_foreign_syntax_hint(alloc, has_maps, model, fault.path.as_slice(), form, found)
+            add_or_replace_notes_if_foreign_syntax(
+                alloc,
+                has_maps,
+                model,
+                fault.path.as_slice(),
+                form,
+                found,
+            )
         }
-        (FaultKind::UnknownForm, Role::Item | Role::Callback) => with_foreign_word_hint(
-            alloc, form, found,
-        ),
+        (FaultKind::UnknownForm, Role::Item | Role::Callback) =>
+            with_hint_if_malformed_word_or_part(alloc, form, found),
         (FaultKind::UnknownForm, Role::Type) => {
-            with_parameter_order_hint(alloc, model, fault.path.as_slice(), found)
+            with_hint_if_type_before_name(alloc, model, fault.path.as_slice(), found)
         }
         _ => Ok(found),
     }
@@ -220,7 +233,10 @@ fn push_problem_unless_same_as_last(
 /// The problems of a model that is refused for its form: one for each of its first `MOST_PROBLEMS + 1` faults, in their
 /// order. What is missing is left out where an earlier fault may account for it, and so is a problem that equals the
 /// last one. No problem comes after a fault of the whole model, as that it has too many trees.
-pub fn model_syntax_problems(alloc: Global, trees: &[Tree]) -> Result<Vec<Problem>, AllocError> {
+pub fn first_model_syntax_problems(
+    alloc: Global,
+    trees: &[Tree],
+) -> Result<Vec<Problem>, AllocError> {
     let mut problems = Vec::new(alloc);
     let Some(tree) = trees.first() else {
         push_problem_if_any(
@@ -240,7 +256,9 @@ pub fn model_syntax_problems(alloc: Global, trees: &[Tree]) -> Result<Vec<Proble
         if is_missing_with_earlier_fault_inside(fault, before) {
             continue;
         }
-        if let Some(problem) = fault_problem_with_hint(alloc, model, form, fault)? {
+        if let Some(problem) = model_fault_problem_with_hint_if_foreign(
+            alloc, model, form, fault,
+        )? {
             push_problem_unless_same_as_last(&mut problems, problem)?;
         }
         if fault.role == Role::Model {

@@ -7,7 +7,7 @@ ghost use Rattle.pst_syntax.specs.Faults.{name_faults};
 
 use crate::fault::{FormFault, Role};
 use crate::problem::path_to_part;
-use pst_syntax::{FaultKind, is_short};
+use pst_syntax::{FaultKind, is_within_name_length};
 use pst_value::{Items, Text};
 use std::alloc::{AllocError, Global};
 
@@ -41,7 +41,7 @@ pub struct DeclaredName<'a> {
 
 /// Adds the fault of the part at `path`. Does nothing if there are already as many faults as the limit of `walk`.
 #[tactic(auto, using(crate::proofs::Keeping::keeping))]
-pub fn push_fault(
+pub fn push_fault_within_limit(
     walk: FaultSearch,
     faults: &mut Faults,
     path: &[usize],
@@ -73,7 +73,7 @@ pub fn push_fault_unless(
     if holds {
         Ok(())
     } else {
-        push_fault(walk, faults, path, role, kind)
+        push_fault_within_limit(walk, faults, path, role, kind)
     }
 }
 
@@ -90,10 +90,17 @@ fn push_name_faults(
         (map (placed path.now role) (name_faults name.entry.is_lawful name.entry.is_taken name.entry.word.now))) }
 {
     let is_taken = name.is_taken;
-    let is_short = is_short(name.word);
+    let is_within_name_length = is_within_name_length(name.word);
     push_fault_unless(walk, faults, path, role, name.is_lawful, FaultKind::BadName)?;
     push_fault_unless(walk, faults, path, role, !is_taken, FaultKind::DoubleName)?;
-    push_fault_unless(walk, faults, path, role, is_short, FaultKind::OverLimit)?;
+    push_fault_unless(
+        walk,
+        faults,
+        path,
+        role,
+        is_within_name_length,
+        FaultKind::OverLimit,
+    )?;
     Ok(())
 }
 

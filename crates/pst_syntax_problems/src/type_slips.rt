@@ -23,7 +23,7 @@ fn unknown_function_named_in_message(what: &str) -> Option<&str> {
 }
 
 /// Whether `item` is the operation `name`.
-fn is_operation(item: &Form, name: &str) -> bool {
+fn is_operation_item_named(item: &Form, name: &str) -> bool {
     match node_of(item) {
         Some([Form::Word(head), Form::Word(declared), ..]) => {
             head.as_str() == "op" && declared.as_str() == name
@@ -33,9 +33,9 @@ fn is_operation(item: &Form, name: &str) -> bool {
 }
 
 /// Whether the model has an operation `name`.
-fn has_operation(model: &Form, name: &str) -> bool {
+fn has_operation_item_named(model: &Form, name: &str) -> bool {
     let items = node_of(model).unwrap_or(&[]);
-    items.iter().any(|item| is_operation(item, name))
+    items.iter().any(|item| is_operation_item_named(item, name))
 }
 
 /// The hint on a `set` in a next. `path` leads to this word. With three parts, in a language with maps, it means `put`.
@@ -50,7 +50,7 @@ fn put_or_assignment_hint_for_set(model: &Form, path: &[usize]) -> &'static str 
 }
 
 /// The problem with `note` in place of its notes.
-fn with_note_instead_of_others<D: Display + Drop>(
+pub fn with_note_instead_of_others<D: Display + Drop>(
     alloc: Global,
     problem: Problem,
     note: D,
@@ -65,7 +65,7 @@ const NO_CALLS: &str = "command: expected (list call), found ";
 
 /// The problem of an ill-typed model, with a hint if the part is written as in another language: a command that is no list
 /// of calls, an operation that is applied, or an assignment.
-pub fn with_call_or_assignment_hint(
+pub fn with_call_or_assignment_hint_if_meant(
     alloc: Global,
     model: &Form,
     problem: Problem,
@@ -82,7 +82,9 @@ pub fn with_call_or_assignment_hint(
         let hint = put_or_assignment_hint_for_set(model, path);
         return with_note_instead_of_others(alloc, problem, hint);
     }
-    if head_word_on_path_or_empty(model, path, 2) == "command" && has_operation(model, name) {
+    if head_word_on_path_or_empty(model, path, 2) == "command"
+        && has_operation_item_named(model, name)
+    {
         let hint = format!(in alloc;
             "hint: `{name}` is an operation: a call of it is `(call {name} ..)`"
         )?;

@@ -1,15 +1,15 @@
 //! What messages say of refused types.
 
 use crate::expressions::{
-    bad_map_key_type_problem, part_count_problem, too_many_tuple_items_problem,
+    bad_map_key_type_problem, problem_of_too_many_tuple_items, problem_of_wrong_part_count,
     type_tree_contains_value,
 };
-use crate::forms::{hint_for_foreign_word, is_head_of_map_form, type_form};
+use crate::forms::{find_type_form, hint_for_foreign_word, is_head_of_map_form};
 use crate::found_problem::{
     FoundProblem, problem_at, problem_with_hint_if_foreign_word, problem_with_note,
     problem_with_note_at_part, with_note,
 };
-use crate::item_forms::{OPERATION, is_callback};
+use crate::item_forms::{OPERATION, is_callback_head};
 use crate::names::{DidYouMean, NearestNameSoFar};
 use crate::problem::{Problem, path_to_part};
 use crate::tree::has_head;
@@ -20,7 +20,7 @@ use pst_value::Text;
 use std::alloc::{AllocError, Global};
 
 /// The head word of a node, and the trees after it.
-fn head_and_parts(form: &Form) -> Option<(&Text, &[Form])> {
+fn head_word_and_parts(form: &Form) -> Option<(&Text, &[Form])> {
     let (first, rest) = node_of(form)?.split_first()?;
     Some((word_of(first)?, rest))
 }
@@ -36,7 +36,7 @@ fn maps_not_allowed_problem(alloc: Global, path: &[usize]) -> FoundProblem {
 }
 
 /// The problem of a node with the head `head` and the trees `rest` after it, which is no type.
-fn type_node_problem(
+fn malformed_type_node_problem(
     alloc: Global,
     has_maps: bool,
     path: &[usize],
@@ -44,23 +44,23 @@ fn type_node_problem(
     head: &str,
     rest: &[Form],
 ) -> FoundProblem {
-    let Some(shown) = type_form(head) else {
+    let Some(shown) = find_type_form(head) else {
         return unknown_type_head_problem(alloc, path, form, head);
     };
     if is_head_of_map_form(head) && !has_maps {
         return maps_not_allowed_problem(alloc, path);
     }
     if rest.len() < shown.least || rest.len() > shown.most {
-        return part_count_problem(alloc, path, shown, rest.len());
+        return problem_of_wrong_part_count(alloc, path, shown, rest.len());
     }
     bad_map_key_type_problem(alloc, path_to_part(path, alloc, 1)?.as_slice())
 }
 
 /// The problem of a tree that is no type.
 fn not_a_type_problem(alloc: Global, has_maps: bool, path: &[usize], form: &Form) -> FoundProblem {
-    match (form, head_and_parts(form)) {
+    match (form, head_word_and_parts(form)) {
         (Form::Word(word), _) => unknown_type_word_problem(alloc, path, word.as_str()),
-        (_, Some((head, rest))) => type_node_problem(
+        (_, Some((head, rest))) => malformed_type_node_problem(
             alloc,
             has_maps,
             path,
@@ -74,12 +74,12 @@ fn not_a_type_problem(alloc: Global, has_maps: bool, path: &[usize], form: &Form
 
 /// The problem of a word that is no type.
 fn unknown_type_word_problem(alloc: Global, path: &[usize], word: &str) -> FoundProblem {
-    if let Some(shown) = type_form(word) {
+    if let Some(shown) = find_type_form(word) {
         let written = shown.written;
         return problem_at(alloc, path, format_args!("the type is written `{written}`"));
     }
     let what = format_args!("`{word}` is not a type");
-    match nearest_type_hint(alloc, word)? {
+    match nearest_int_bool_or_text_hint(alloc, word)? {
         Some(hint) if hint_for_foreign_word(word).is_none() => problem_with_note(
             alloc, path, what, hint,
         ),
@@ -89,7 +89,7 @@ fn unknown_type_word_problem(alloc: Global, path: &[usize], word: &str) -> Found
 
 /// The problem `found` of the type that `path` leads to in `model`, with a hint if it is the name of a parameter whose
 /// type comes before it: if the node around it has two words, the first of them `int`, `bool` or `text`.
-pub fn with_parameter_order_hint(
+pub fn with_hint_if_type_before_name(
     alloc: Global,
     model: &Form,
     path: &[usize],
@@ -102,7 +102,7 @@ pub fn with_parameter_order_hint(
         return Ok(found);
     };
     match node_of(around) {
-        Some([Form::Word(ty), Form::Word(name)]) if is_plain_type(ty.as_str()) => {
+        Some([Form::Word(ty), Form::Word(name)]) if is_int_bool_or_text_word(ty.as_str()) => {
             let ty = ty.as_str();
             let name = name.as_str();
             let hint = format_args!("hint: the name comes first: `({name} {ty})`");
@@ -113,15 +113,18 @@ pub fn with_parameter_order_hint(
 }
 
 /// Whether `word` is a type by itself.
-fn is_plain_type(word: &str) -> bool {
+fn is_int_bool_or_text_word(word: &str) -> bool {
     matches!(word, "int" | "bool" | "text")
 }
 
 /// The type that `word` probably means, as a hint.
-fn nearest_type_hint(alloc: Global, word: &str) -> Result<Option<DidYouMean<'static>>, AllocError> {
-    let mut near = NearestNameSoFar::to(word);
+fn nearest_int_bool_or_text_hint(
+    alloc: Global,
+    word: &str,
+) -> Result<Option<DidYouMean<'static>>, AllocError> {
+    let mut near = NearestNameSoFar::without_candidates(word);
     for name in ["int", "bool", "text"] {
-        near = near.or(alloc, name, word)?;
+        near = near.or_nearer_candidate(alloc, name, word)?;
     }
     Ok(near.hint())
 }
@@ -133,7 +136,7 @@ fn unknown_type_head_problem(
     form: &Form,
     head: &str,
 ) -> FoundProblem {
-    if is_callback(head) {
+    if is_callback_head(head) {
         let what = "expected the type of the result here, before the callbacks";
         return problem_with_note(alloc, path, what, OPERATION);
     }
@@ -156,12 +159,12 @@ fn nothing_like_a_type_problem(alloc: Global, path: &[usize], form: &Form) -> Fo
 }
 
 /// The problem of a type that is nested too deep.
-pub fn deep_type_problem(alloc: Global, path: &[usize]) -> FoundProblem {
+pub fn too_deep_type_problem(alloc: Global, path: &[usize]) -> FoundProblem {
     problem_at(alloc, path, "types are nested more than 16 deep")
 }
 
 /// The problem of a type with the fault `kind`.
-pub fn type_problem(
+pub fn refused_type_problem(
     alloc: Global,
     has_maps: bool,
     path: &[usize],
@@ -169,7 +172,7 @@ pub fn type_problem(
     kind: FaultKind,
 ) -> FoundProblem {
     match kind {
-        FaultKind::OverLimit => too_many_tuple_items_problem(
+        FaultKind::OverLimit => problem_of_too_many_tuple_items(
             alloc,
             path,
             node_of(form).unwrap_or(&[]),
@@ -180,7 +183,7 @@ pub fn type_problem(
 
 /// How many numbers of `path` lead to the type of the items of a list that is written out. The path leads to
 /// it, or to a type in it.
-fn path_length_to_item_type(model: &Form, path: &[usize]) -> usize {
+fn path_length_to_list_item_type(model: &Form, path: &[usize]) -> usize {
     let mut length: usize = 1;
     let mut form = Some(model);
     for number in path.get(1..).unwrap_or(&[]) {
@@ -196,7 +199,7 @@ fn path_length_to_item_type(model: &Form, path: &[usize]) -> usize {
 
 /// Returns the problem of a type with the fault `kind`. The type is the item type of a list expression, or a part of
 /// this type.
-pub fn item_type_problem(
+pub fn refused_list_item_type_problem(
     alloc: Global,
     has_maps: bool,
     model: &Form,
@@ -205,7 +208,7 @@ pub fn item_type_problem(
     kind: FaultKind,
 ) -> FoundProblem {
     let hint = "hint: a list begins with the type of its items: `(list int 1 2)`";
-    let length = path_length_to_item_type(model, path);
+    let length = path_length_to_list_item_type(model, path);
     let whole = path.get(..length).unwrap_or(path);
     let ty = tree_in(model, whole.get(1..).unwrap_or(&[]));
     if ty.is_some_and(|ty| type_tree_contains_value(has_maps, ty)) {
@@ -216,7 +219,7 @@ pub fn item_type_problem(
             hint,
         );
     }
-    let found = type_problem(alloc, has_maps, path, form, kind)?;
+    let found = refused_type_problem(alloc, has_maps, path, form, kind)?;
     if length == path.len() {
         with_note(alloc, found, hint)
     } else {

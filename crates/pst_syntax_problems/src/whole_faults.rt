@@ -6,10 +6,10 @@ ghost use Rattle.pst_syntax_problems.specs.Placed.{below, unless_at};
 ghost use Rattle.pst_syntax_problems.specs.PlacedModel as spec;
 ghost use Rattle.pst_syntax.specs.declared.fault.FaultKind.TheVariants.{DoubleName};
 
-use crate::expression_faults::add_expr_part_faults;
+use crate::expression_faults::add_expression_faults_at_part;
 use crate::fault::Role;
 use crate::telling::{AddingResult, FaultSearch, Faults, push_fault_unless};
-use crate::type_faults::add_ty_part_faults;
+use crate::type_faults::add_type_faults_at_part;
 use pst_sexpr::Form;
 use pst_syntax::{FaultKind, MAX_EXPR_LEVELS, MAX_TY_LEVELS};
 
@@ -24,11 +24,11 @@ pub fn add_outermost_type_faults(
     ensures { OnOk result (faults.new ≡ keep walk.limit faults.old
         (spec.whole_ty_at walk.has_maps (below path.now number) form.now)) }
 {
-    add_ty_part_faults(walk, faults, Role::Type, path, number, form, MAX_TY_LEVELS)
+    add_type_faults_at_part(walk, faults, Role::Type, path, number, form, MAX_TY_LEVELS)
 }
 
 /// Adds the faults of an expression that is part `number` of the tree at `path`, and of no other expression.
-pub fn add_outermost_expr_faults(
+pub fn add_outermost_expression_faults(
     walk: FaultSearch,
     faults: &mut Faults,
     path: &[usize],
@@ -38,12 +38,12 @@ pub fn add_outermost_expr_faults(
     ensures { OnOk result (faults.new ≡ keep walk.limit faults.old
         (spec.whole_expr_at walk.has_maps (below path.now number) form.now)) }
 {
-    add_expr_part_faults(walk, faults, path, number, form, MAX_EXPR_LEVELS)
+    add_expression_faults_at_part(walk, faults, path, number, form, MAX_EXPR_LEVELS)
 }
 
 /// Adds the faults of a callback or an item with an expression at `path`. `has_one` is true if there was one before
 /// it.
-pub fn add_single_expression_faults(
+pub fn add_repetition_and_expression_faults(
     walk: FaultSearch,
     faults: &mut Faults,
     role: Role,
@@ -56,6 +56,6 @@ pub fn add_single_expression_faults(
         (spec.whole_expr_at walk.has_maps (below path.now 1) form.now))) }
 {
     push_fault_unless(walk, faults, path, role, !has_one, FaultKind::DoubleName)?;
-    add_outermost_expr_faults(walk, faults, path, 1, form)?;
+    add_outermost_expression_faults(walk, faults, path, 1, form)?;
     Ok(())
 }

@@ -21,12 +21,12 @@ pub struct TypeText<'a>(pub &'a Ty);
 
 impl fmt::Display for TypeText<'_> {
     fn fmt<W: fmt::Write>(&self, f: &mut fmt::Formatter<W>) -> fmt::Result {
-        write_type(f, self.0)
+        write_type_for_message(f, self.0)
     }
 }
 
-#[cycle(write_type)]
-fn write_type<W: fmt::Write>(f: &mut fmt::Formatter<W>, ty: &Ty) -> fmt::Result {
+#[cycle(write_type_for_message)]
+fn write_type_for_message<W: fmt::Write>(f: &mut fmt::Formatter<W>, ty: &Ty) -> fmt::Result {
     match ty {
         Ty::Int => f.write_str("int"),
         Ty::Bool => f.write_str("bool"),
@@ -34,37 +34,43 @@ fn write_type<W: fmt::Write>(f: &mut fmt::Formatter<W>, ty: &Ty) -> fmt::Result 
         Ty::Call => f.write_str("call"),
         Ty::Tuple(items) => {
             f.write_str("(tuple")?;
-            write_types_and_close(f, items.as_slice())
+            write_types_and_closing_bracket(f, items.as_slice())
         }
         Ty::List(item) => {
             f.write_str("(list ")?;
-            write_type_and_close(f, item.get())
+            write_type_and_closing_bracket(f, item.get())
         }
         Ty::Ref(named) => {
             f.write_str("(ref ")?;
-            write_type_and_close(f, named.get())
+            write_type_and_closing_bracket(f, named.get())
         }
         Ty::Map(keys, value) => {
             let keys = key_type_word(*keys);
             write!(f, "(map {keys} ")?;
-            write_type_and_close(f, value.get())
+            write_type_and_closing_bracket(f, value.get())
         }
     }
 }
 
 /// Writes a type and a closing bracket.
-#[cycle(write_type)]
-fn write_type_and_close<W: fmt::Write>(f: &mut fmt::Formatter<W>, ty: &Ty) -> fmt::Result {
-    write_type(f, ty)?;
+#[cycle(write_type_for_message)]
+fn write_type_and_closing_bracket<W: fmt::Write>(
+    f: &mut fmt::Formatter<W>,
+    ty: &Ty,
+) -> fmt::Result {
+    write_type_for_message(f, ty)?;
     f.write_str(")")
 }
 
 /// Writes types with a blank before each, and a closing bracket.
-#[cycle(write_type)]
-fn write_types_and_close<W: fmt::Write>(f: &mut fmt::Formatter<W>, types: &[Ty]) -> fmt::Result {
+#[cycle(write_type_for_message)]
+fn write_types_and_closing_bracket<W: fmt::Write>(
+    f: &mut fmt::Formatter<W>,
+    types: &[Ty],
+) -> fmt::Result {
     for ty in types {
         f.write_str(" ")?;
-        write_type(f, ty)?;
+        write_type_for_message(f, ty)?;
     }
     f.write_str(")")
 }
@@ -75,24 +81,27 @@ pub struct FormText<'a>(pub &'a Form);
 
 impl fmt::Display for FormText<'_> {
     fn fmt<W: fmt::Write>(&self, f: &mut fmt::Formatter<W>) -> fmt::Result {
-        write_form(f, self.0)
+        write_tree_for_message(f, self.0)
     }
 }
 
-#[cycle(write_form)]
-fn write_form<W: fmt::Write>(f: &mut fmt::Formatter<W>, form: &Form) -> fmt::Result {
+#[cycle(write_tree_for_message)]
+fn write_tree_for_message<W: fmt::Write>(f: &mut fmt::Formatter<W>, form: &Form) -> fmt::Result {
     match form {
         Form::Word(word) => f.write_str(word.as_str()),
-        Form::Text(text) => write_quoted(f, text.as_str()),
+        Form::Text(text) => write_quoted_and_escaped(f, text.as_str()),
         Form::Node(parts) => {
             f.write_str("(")?;
-            write_form_parts_and_close(f, parts.as_slice())
+            write_form_parts_and_closing_bracket(f, parts.as_slice())
         }
     }
 }
 
 /// Writes a text in quotes, with a backslash before each quote and each backslash in it.
-fn write_quoted<W: fmt::Write>(f: &mut fmt::Formatter<W>, text: &str) -> fmt::Result {
+pub fn write_quoted_and_escaped<W: fmt::Write>(
+    f: &mut fmt::Formatter<W>,
+    text: &str,
+) -> fmt::Result {
     f.write_str("\"")?;
     for letter in text.chars() {
         if letter == '"' || letter == '\\' {
@@ -104,8 +113,8 @@ fn write_quoted<W: fmt::Write>(f: &mut fmt::Formatter<W>, text: &str) -> fmt::Re
 }
 
 /// Writes trees with a blank between them, and a closing bracket.
-#[cycle(write_form)]
-fn write_form_parts_and_close<W: fmt::Write>(
+#[cycle(write_tree_for_message)]
+fn write_form_parts_and_closing_bracket<W: fmt::Write>(
     f: &mut fmt::Formatter<W>,
     parts: &[Form],
 ) -> fmt::Result {
@@ -113,7 +122,7 @@ fn write_form_parts_and_close<W: fmt::Write>(
         if number > 0 {
             f.write_str(" ")?;
         }
-        write_form(f, part)?;
+        write_tree_for_message(f, part)?;
     }
     f.write_str(")")
 }

@@ -5,6 +5,6 @@ mod boxed;
 mod call;
 mod contract;
 
-pub use boxed::{BoxedSystem, call_box, reset_box};
+pub use boxed::{BoxedSystem, call_boxed_system, reset_boxed_system};
 pub use call::{CallFault, RealCall};
 pub use contract::System;

@@ -7,7 +7,7 @@
 
 pub use pst_campaign::{CampaignFault, Unwatched, Watch, campaign};
 pub use pst_cli::{
-    Chosen, ExplainOptions, ExplanationForm, Status, campaign_text, check_text, explain_text,
+    ChosenItems, ExplainOptions, ExplanationForm, Status, campaign_text, check_text, explain_text,
     judge_text,
 };
 pub use pst_report::report;

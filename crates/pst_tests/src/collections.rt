@@ -17,7 +17,7 @@ fn results_of_items_operations(alloc: Global) -> Result<String, AllocError> {
 }
 
 #[test]
-fn items_hold_a_vec(rt: HostRuntime) -> Result<(), Fail> {
+fn items_operations_act_like_a_vec(rt: HostRuntime) -> Result<(), Fail> {
     let text = results_of_items_operations(rt.alloc())?;
     assert_eq!(rt; text.as_str(), "(3, false, Some(9)) Some(3) [9, 2, 4]");
     Ok(())

@@ -10,17 +10,17 @@ use std::alloc::{AllocError, Global};
 use std::test::Fail;
 
 /// Whether the run that `item` spells is equal to its copy.
-fn is_copied(alloc: Global, model: &str, item: &str) -> Option<bool> {
+fn are_copies_of_spelled_run_equal(alloc: Global, model: &str, item: &str) -> Option<bool> {
     let typed = typed_model_of_text(alloc, model)?;
     let trees = read(alloc, item.as_bytes()).ok()?;
     let mut runs = read_runs(alloc, &typed, trees.as_slice()).ok()?;
     let Run { shaped, history } = runs.pop()?;
     let shaped = shape(alloc, &typed, shaped.into_case()).ok()?;
-    run_is_copied(alloc, typed.source(), &Run { shaped, history }).ok()
+    are_copies_of_run_equal(alloc, typed.source(), &Run { shaped, history }).ok()
 }
 
 /// Whether a copy of a run is equal, and so are those of its case and of its shaped case.
-fn run_is_copied(alloc: Global, model: &Source, run: &Run) -> Result<bool, AllocError>
+fn are_copies_of_run_equal(alloc: Global, model: &Source, run: &Run) -> Result<bool, AllocError>
     requires { run.now.shaped.model ≡ model.now }
 {
     let copy = run.copy(alloc, model)?;
@@ -35,7 +35,7 @@ fn run_is_copied(alloc: Global, model: &Source, run: &Run) -> Result<bool, Alloc
 }
 
 #[test]
-fn copies_are_equal(rt: HostRuntime) -> Result<(), Fail> {
+fn copies_of_runs_are_equal(rt: HostRuntime) -> Result<(), Fail> {
     let alloc = rt.alloc();
     let rows: [(&str, &str); 3] = [
         (
@@ -50,7 +50,10 @@ fn copies_are_equal(rt: HostRuntime) -> Result<(), Fail> {
         (REGISTRY, "(case (prefix (new) (close $01)) (left) (right))"),
     ];
     for (model, item) in rows {
-        assert!(rt; is_copied(alloc, model, item) == Some(true), "{item}");
+        assert!(rt;
+            are_copies_of_spelled_run_equal(alloc, model, item) == Some(true),
+            "{item}"
+        );
     }
     Ok(())
 }

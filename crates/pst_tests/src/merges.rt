@@ -2,7 +2,8 @@
 ghost use Rattle.std.specs.Prelude.{◌<◌, ◌+◌, ◌^◌, sum};
 
 use pst_grid::{
-    Ending, EveryAnswer, SomeAnswer, StepOutcome, Steps, StopReason, every, some, some_plainly,
+    Ending, EveryAnswer, SomeAnswer, StepOutcome, Steps, StopReason, every,
+    find_first_true_interleaving_plainly, some,
 };
 use std::alloc::{AllocError, Global};
 use std::cell::Cell;
@@ -17,7 +18,7 @@ struct LampCommand {
 
 impl LampCommand {
     /// The command of a branch's number and its place there.
-    fn at(place: (usize, usize)) -> LampCommand {
+    fn of_branch_and_index(place: (usize, usize)) -> LampCommand {
         let (branch, index) = place;
         LampCommand { branch, index }
     }
@@ -131,10 +132,10 @@ impl Lamp {
     fn new(commands: [(usize, usize); 4], ends_true_if_on: bool) -> Lamp {
         let [on, off, true_if_on, needs] = commands;
         Lamp {
-            on: LampCommand::at(on),
-            off: LampCommand::at(off),
-            true_if_on: LampCommand::at(true_if_on),
-            needs: LampCommand::at(needs),
+            on: LampCommand::of_branch_and_index(on),
+            off: LampCommand::of_branch_and_index(off),
+            true_if_on: LampCommand::of_branch_and_index(true_if_on),
+            needs: LampCommand::of_branch_and_index(needs),
             ends_true_if_on,
             steps_made: Cell::new(0),
         }
@@ -239,7 +240,7 @@ const CASES: [LampSearchCase; 11] = [
 ];
 
 /// Whether the searches return what `case` expects over branches of these lengths.
-fn is_answered_over(
+fn do_searches_return_expected_answers(
     alloc: Global,
     case: &LampSearchCase,
     lengths: &[usize],
@@ -248,7 +249,7 @@ fn is_answered_over(
 {
     let lamp = Lamp::new(case.commands, case.ends_true_if_on);
     let (some_answer, _) = some(alloc, &lamp, lengths, &false)?;
-    let (plain, _) = some_plainly(alloc, &lamp, lengths, &false)?;
+    let (plain, _) = find_first_true_interleaving_plainly(alloc, &lamp, lengths, &false)?;
     let (every_answer, _) = every(alloc, &lamp, lengths, &false)?;
     Ok(
         format!(in alloc; "{some_answer:?}")?.as_str() == case.some
@@ -258,21 +259,32 @@ fn is_answered_over(
 }
 
 /// Whether the searches return what `case` expects, for at most three branches of at most eight commands each.
-fn has_expected_answers(alloc: Global, case: &LampSearchCase) -> Result<bool, AllocError> {
+fn is_small_and_has_expected_answers(
+    alloc: Global,
+    case: &LampSearchCase,
+) -> Result<bool, AllocError> {
     match case.lengths {
-        [] => is_answered_over(alloc, case, &[]),
-        [one, two] if *one <= 8 && *two <= 8 => is_answered_over(alloc, case, &[*one, *two]),
+        [] => do_searches_return_expected_answers(alloc, case, &[]),
+        [one, two] if *one <= 8 && *two <= 8 => do_searches_return_expected_answers(
+            alloc,
+            case,
+            &[*one, *two],
+        ),
         [one, two, three] if *one <= 8 && *two <= 8 && *three <= 8 => {
-            is_answered_over(alloc, case, &[*one, *two, *three])
+            do_searches_return_expected_answers(alloc, case, &[*one, *two, *three])
         }
         _ => Ok(false),
     }
 }
 
 #[test]
-fn answers_of_small_branches(rt: HostRuntime) -> Result<(), Fail> {
+fn lamp_searches_return_expected_answers(rt: HostRuntime) -> Result<(), Fail> {
     for case in CASES {
-        assert!(rt; has_expected_answers(rt.alloc(), &case)?, "{}", case.some);
+        assert!(rt;
+            is_small_and_has_expected_answers(rt.alloc(), &case)?,
+            "{}",
+            case.some
+        );
     }
     Ok(())
 }
@@ -280,7 +292,7 @@ fn answers_of_small_branches(rt: HostRuntime) -> Result<(), Fail> {
 /// Whether `some` finds nothing after `far` commands, in at most `most` steps, if the event of the command `last` is
 /// false or, with `ends_true_if_on`, what runs after the branches is; and `every` holds in as few if all of it is true. The
 /// lamp counts its steps as the searches do.
-fn has_expected_step_counts(
+fn do_searches_count_steps_within_limit(
     alloc: Global,
     lengths: &[usize],
     last: (usize, usize),
@@ -310,10 +322,12 @@ fn has_expected_step_counts(
 
 // Two branches of eight and four of four. All events are true, or all but the last of the last branch.
 #[test]
-fn steps_are_counted(rt: HostRuntime) -> Result<(), Fail> {
+fn searches_count_their_steps(rt: HostRuntime) -> Result<(), Fail> {
     let alloc = rt.alloc();
-    assert!(rt; has_expected_step_counts(alloc, &[8, 8], (1, 7), false, 15, 162)?);
-    assert!(rt; has_expected_step_counts(alloc, &[4, 4, 4, 4], (3, 3), false, 15, 2500)?);
+    assert!(rt; do_searches_count_steps_within_limit(alloc, &[8, 8], (1, 7), false, 15, 162)?);
+    assert!(rt;
+        do_searches_count_steps_within_limit(alloc, &[4, 4, 4, 4], (3, 3), false, 15, 2500)?
+    );
     Ok(())
 }
 
@@ -321,8 +335,8 @@ fn steps_are_counted(rt: HostRuntime) -> Result<(), Fail> {
 #[test]
 fn steps_after_the_branches_are_counted(rt: HostRuntime) -> Result<(), Fail> {
     let alloc = rt.alloc();
-    assert!(rt; has_expected_step_counts(alloc, &[8, 8], NONE, true, 16, 163)?);
-    assert!(rt; has_expected_step_counts(alloc, &[4, 4, 4, 4], NONE, true, 16, 2501)?);
+    assert!(rt; do_searches_count_steps_within_limit(alloc, &[8, 8], NONE, true, 16, 163)?);
+    assert!(rt; do_searches_count_steps_within_limit(alloc, &[4, 4, 4, 4], NONE, true, 16, 2501)?);
     Ok(())
 }
 

@@ -9,7 +9,11 @@ use std::alloc::{AllocError, Global};
 use std::test::Fail;
 
 /// The operation `number`: its name, how many parameters it has, and its result type.
-fn operation_answer(alloc: Global, typed: &Typed, number: u32) -> Result<String, AllocError> {
+fn operation_name_parameter_count_and_result(
+    alloc: Global,
+    typed: &Typed,
+    number: u32,
+) -> Result<String, AllocError> {
     let Some(name) = operation_name(typed, number) else {
         return String::from_str(alloc, "none");
     };
@@ -25,7 +29,7 @@ fn operation_answer(alloc: Global, typed: &Typed, number: u32) -> Result<String,
 }
 
 #[test]
-fn operations_of_the_registry(rt: HostRuntime) -> Result<(), Fail> {
+fn registry_operations_have_expected_parts(rt: HostRuntime) -> Result<(), Fail> {
     let alloc = rt.alloc();
     let typed = typed_model_of_text(alloc, REGISTRY).ok_or("no model")?;
     assert_eq!(rt; model_name(&typed).as_str(), "registry");
@@ -36,13 +40,16 @@ fn operations_of_the_registry(rt: HostRuntime) -> Result<(), Fail> {
         (3, "none"),
     ];
     for (number, want) in rows {
-        assert_eq!(rt; operation_answer(alloc, &typed, number)?.as_str(), want);
+        assert_eq!(rt;
+            operation_name_parameter_count_and_result(alloc, &typed, number)?.as_str(),
+            want
+        );
     }
     Ok(())
 }
 
 /// How many calls are listed in the initial state, and the turns left.
-fn calls_answer(alloc: Global, typed: &Typed) -> Result<String, AllocError> {
+fn initial_call_count_turns_or_fault(alloc: Global, typed: &Typed) -> Result<String, AllocError> {
     let plain = Plain::new(typed);
     let (state, _) = match plain.init(alloc)? {
         Ok(opening) => opening,
@@ -60,9 +67,12 @@ fn calls_answer(alloc: Global, typed: &Typed) -> Result<String, AllocError> {
 }
 
 #[test]
-fn calls_of_the_counter(rt: HostRuntime) -> Result<(), Fail> {
+fn the_counter_lists_two_calls(rt: HostRuntime) -> Result<(), Fail> {
     let alloc = rt.alloc();
     let typed = typed_model_of_text(alloc, COUNTER).ok_or("no model")?;
-    assert_eq!(rt; calls_answer(alloc, &typed)?.as_str(), "2 1000000");
+    assert_eq!(rt;
+        initial_call_count_turns_or_fault(alloc, &typed)?.as_str(),
+        "2 1000000"
+    );
     Ok(())
 }

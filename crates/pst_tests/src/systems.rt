@@ -28,20 +28,20 @@ impl System for Liar {
 
 /// A counter that refuses all calls but `inc`.
 #[derive(Drop)]
-pub struct NoGet {
+pub struct CounterWithoutGet {
     count: AtomicI64,
 }
 
-impl NoGet {
+impl CounterWithoutGet {
     /// Returns a counter at 0.
-    pub fn new() -> NoGet {
-        NoGet {
+    pub fn new() -> CounterWithoutGet {
+        CounterWithoutGet {
             count: AtomicI64::new(0),
         }
     }
 }
 
-impl System for NoGet {
+impl System for CounterWithoutGet {
     ghost use Rattle.std.specs.Prelude.{⊤};
 
     ghost answers = { λ _ _ _. ⊤ };

@@ -7,7 +7,12 @@ use std::alloc::{AllocError, Global};
 use std::test::Fail;
 
 /// Whether a tree is written to a sink as far as it has room, and the sink has failed if that is not the whole.
-fn is_tree_cut_at_room(alloc: Global, tree: &Tree, written: &[u8], room: usize) -> bool {
+fn is_tree_written_until_sink_fails(
+    alloc: Global,
+    tree: &Tree,
+    written: &[u8],
+    room: usize,
+) -> bool {
     let mut sink = LimitedSink::new(alloc, room);
     let is_whole = write(tree, &mut sink).is_ok();
     is_whole == (room >= written.len())
@@ -16,7 +21,7 @@ fn is_tree_cut_at_room(alloc: Global, tree: &Tree, written: &[u8], room: usize) 
 }
 
 #[test]
-fn writes_what_it_read(rt: HostRuntime) {
+fn trees_are_written_until_sink_fails(rt: HostRuntime) {
     let text = b" ( a\t\"x\\\"y\\\\\"b() ;note\n c;(\n)";
     let written = b"(a \"x\\\"y\\\\\" b () c)";
     let Ok(trees) = read(rt.alloc(), text) else {
@@ -26,12 +31,12 @@ fn writes_what_it_read(rt: HostRuntime) {
         panic!(rt; "not one tree");
     };
     for room in 0..=written.len() {
-        assert!(rt; is_tree_cut_at_room(rt.alloc(), tree, written, room));
+        assert!(rt; is_tree_written_until_sink_fails(rt.alloc(), tree, written, room));
     }
 }
 
 /// The bytes written for trees, a line end and some bytes after it, if nothing fails.
-fn written_of(alloc: Global, trees: &[Tree]) -> Option<Vec<u8>> {
+fn write_trees_and_fixed_bytes(alloc: Global, trees: &[Tree]) -> Option<Vec<u8>> {
     let mut sink = Out::new(Vec::new(alloc));
     for tree in trees {
         if sink.has_failed() {
@@ -48,18 +53,18 @@ fn written_of(alloc: Global, trees: &[Tree]) -> Option<Vec<u8>> {
 }
 
 #[test]
-fn writes_to_memory(rt: HostRuntime) {
+fn trees_are_written_to_memory(rt: HostRuntime) {
     let Ok(trees) = read(rt.alloc(), b"(a \"b\")") else {
         panic!(rt; "no trees");
     };
-    let Some(bytes) = written_of(rt.alloc(), trees.as_slice()) else {
+    let Some(bytes) = write_trees_and_fixed_bytes(rt.alloc(), trees.as_slice()) else {
         panic!(rt; "a writer failed");
     };
     assert_eq!(rt; bytes.as_slice(), b"(a \"b\")\ncde".as_slice());
 }
 
 /// A node of a word and a text.
-fn word_and_text(alloc: Global) -> Result<Tree, AllocError> {
+fn node_of_word_and_text(alloc: Global) -> Result<Tree, AllocError> {
     let mut trees = Vec::new(alloc);
     trees.push(Tree::word(Text::from_string(String::from_str(alloc, "ab")?)))?;
     trees.push(Tree::text(Text::from_string(String::from_str(alloc, " \"")?)))?;
@@ -67,8 +72,8 @@ fn word_and_text(alloc: Global) -> Result<Tree, AllocError> {
 }
 
 #[test]
-fn makes_trees(rt: HostRuntime) -> Result<(), Fail> {
-    let node = word_and_text(rt.alloc())?;
+fn a_made_tree_is_written(rt: HostRuntime) -> Result<(), Fail> {
+    let node = node_of_word_and_text(rt.alloc())?;
     let mut sink = Out::new(Vec::new(rt.alloc()));
     let answer = write(&node, &mut sink);
     let count = match node.into_form() {

@@ -12,7 +12,7 @@ use std::alloc::Global;
 use std::test::Fail;
 
 /// The runs that a text spells.
-fn runs_of(alloc: Global, typed: &Typed, text: &str) -> Option<Vec<Run>>
+fn read_runs_of_text(alloc: Global, typed: &Typed, text: &str) -> Option<Vec<Run>>
     ensures { IfSome result (λ runs. AreLawful typed.now runs.items) }
 {
     let trees = read(alloc, text.as_bytes()).ok()?;
@@ -20,7 +20,7 @@ fn runs_of(alloc: Global, typed: &Typed, text: &str) -> Option<Vec<Run>>
 }
 
 /// Whether runs are written to a writer as far as it has room, and it has failed if that is not the whole.
-fn is_run_text_cut_at_room(
+fn are_runs_written_until_sink_fails(
     alloc: Global,
     typed: &Typed,
     runs: &[Run],
@@ -39,16 +39,18 @@ fn is_run_text_cut_at_room(
 }
 
 #[test]
-fn writer_fails_after_each_byte(rt: HostRuntime) -> Result<(), Fail> {
+fn runs_are_written_until_sink_fails(rt: HostRuntime) -> Result<(), Fail> {
     let alloc = rt.alloc();
     let text =
         "(case (prefix (inc)) (left) (right))\n(run (prefix) (left (inc)) (right) (replies () (1) ()))\n";
     let typed = typed_model_of_text(alloc, COUNTER).ok_or("no model")?;
-    let Some(runs) = runs_of(alloc, &typed, text) else {
+    let Some(runs) = read_runs_of_text(alloc, &typed, text) else {
         panic!(rt; "no runs");
     };
     for room in 0..=text.len() {
-        assert!(rt; is_run_text_cut_at_room(alloc, &typed, runs.as_slice(), text.as_bytes(), room));
+        assert!(rt;
+            are_runs_written_until_sink_fails(alloc, &typed, runs.as_slice(), text.as_bytes(), room)
+        );
     }
     Ok(())
 }

@@ -14,7 +14,7 @@ use std::test::Fail;
 type KnownClients<'a, H> = Clients<H, &'a [u8], Vec<u8>>;
 
 /// One client at these pipes. The model has one operation, with an integer result.
-fn client_at<'a, H: Wait + Files + Send + Sync + Drop>(
+fn client_at_connection<'a, H: Wait + Files + Send + Sync + Drop>(
     rt: H,
     alloc: Global,
     notes: &Arc<Notes, Global>,
@@ -28,13 +28,13 @@ fn client_at<'a, H: Wait + Files + Send + Sync + Drop>(
 }
 
 /// One client that prints these lines, whatever the request.
-fn one_client<'a, H: Wait + Files + Send + Sync + Drop>(
+fn client_that_prints_lines<'a, H: Wait + Files + Send + Sync + Drop>(
     rt: H,
     alloc: Global,
     notes: &Arc<Notes, Global>,
     lines: &'a str,
 ) -> Result<KnownClients<'a, H>, AllocError> {
-    client_at(
+    client_at_connection(
         rt,
         alloc,
         notes,
@@ -43,7 +43,7 @@ fn one_client<'a, H: Wait + Files + Send + Sync + Drop>(
 }
 
 /// The call `(put ARG)`.
-fn put(alloc: Global, arg: Value) -> Result<RealCall, AllocError> {
+fn call_of_put_operation(alloc: Global, arg: Value) -> Result<RealCall, AllocError> {
     let name = Text::from_string(String::from_str(alloc, "put")?);
     let mut args = Items::new(alloc);
     args.push(arg)?;
@@ -51,12 +51,12 @@ fn put(alloc: Global, arg: Value) -> Result<RealCall, AllocError> {
 }
 
 /// The answers to one reset and then `calls` calls, each after a space.
-fn answers_to_reset_and_calls<H: Wait + Files + Send + Sync + Drop>(
+fn answers_to_reset_and_put_calls<H: Wait + Files + Send + Sync + Drop>(
     alloc: Global,
     clients: &mut KnownClients<'_, H>,
     calls: u32,
 ) -> Result<String, AllocError> {
-    let call = put(alloc, Value::Int(1))?;
+    let call = call_of_put_operation(alloc, Value::Int(1))?;
     let mut text = String::new(alloc);
     let reset = clients.reset();
     write!(&mut text, " {reset:?}")?;
@@ -68,11 +68,15 @@ fn answers_to_reset_and_calls<H: Wait + Files + Send + Sync + Drop>(
 }
 
 #[test]
-fn lines_answer_in_turn(rt: HostRuntime) -> Result<(), Fail> {
+fn client_lines_answer_calls_in_turn(rt: HostRuntime) -> Result<(), Fail> {
     let alloc = rt.alloc();
     let notes = Arc::new(alloc, Notes::new(alloc)?)?;
     let lines = "true\n7\nfailed: no\nhello\n[1,\"a\"]\n";
-    let text = answers_to_reset_and_calls(alloc, &mut one_client(rt, alloc, &notes, lines)?, 5)?;
+    let text = answers_to_reset_and_put_calls(
+        alloc,
+        &mut client_that_prints_lines(rt, alloc, &notes, lines)?,
+        5,
+    )?;
     let wanted =
         " Ok(()) Ok(Int(7)) Err(Refused) Err(Refused) Ok(List(Items { items: [Int(1), Text(Text { text: \"a\" })] })) Err(Refused)";
     assert_eq!(rt; text.as_str(), wanted);
@@ -80,11 +84,15 @@ fn lines_answer_in_turn(rt: HostRuntime) -> Result<(), Fail> {
 }
 
 #[test]
-fn notes_say_what_went_wrong(rt: HostRuntime) -> Result<(), Fail> {
+fn client_notes_say_what_failed(rt: HostRuntime) -> Result<(), Fail> {
     let alloc = rt.alloc();
     let notes = Arc::new(alloc, Notes::new(alloc)?)?;
     let lines = "true\nfailed: no\nhello\nhello\nnull\n[1,\"a\"]\n";
-    let _ = answers_to_reset_and_calls(alloc, &mut one_client(rt, alloc, &notes, lines)?, 6)?;
+    let _ = answers_to_reset_and_put_calls(
+        alloc,
+        &mut client_that_prints_lines(rt, alloc, &notes, lines)?,
+        6,
+    )?;
     let wanted = "client 1-1: [\"put\",1] was not answered: the client has gone
 client 1-1: [\"put\",1] was answered with failed: no
 client 1-1: [\"put\",1] was answered with something that is not a value: hello
@@ -97,11 +105,11 @@ client 1-1: [\"put\",1] was answered with another type: [1,\"a\"]; type int is a
 }
 
 #[test]
-fn a_branch_without_a_client_is_refused(rt: HostRuntime) -> Result<(), Fail> {
+fn calls_without_a_client_are_refused(rt: HostRuntime) -> Result<(), Fail> {
     let alloc = rt.alloc();
     let notes = Arc::new(alloc, Notes::new(alloc)?)?;
-    let call = put(alloc, Value::Int(1))?;
-    let answer = one_client(rt, alloc, &notes, "1\n")?.call_from(1, &call);
+    let call = call_of_put_operation(alloc, Value::Int(1))?;
+    let answer = client_that_prints_lines(rt, alloc, &notes, "1\n")?.call_from(1, &call);
     let note = notes.text()?;
     let text = format!(in alloc; "{answer:?} {note}")?;
     assert_eq!(rt;
@@ -116,9 +124,9 @@ fn a_client_is_started_again_by_a_reset(rt: HostRuntime) -> Result<(), Fail> {
     let alloc = rt.alloc();
     let notes = Arc::new(alloc, Notes::new(alloc)?)?;
     let lines = "\x18ended 1\n\x18started\ntrue\n7\n12\x18ended 2\n\x18started\ntrue\n8\n";
-    let mut clients = one_client(rt, alloc, &notes, lines)?;
-    let before = answers_to_reset_and_calls(alloc, &mut clients, 3)?;
-    let after = answers_to_reset_and_calls(alloc, &mut clients, 1)?;
+    let mut clients = client_that_prints_lines(rt, alloc, &notes, lines)?;
+    let before = answers_to_reset_and_put_calls(alloc, &mut clients, 3)?;
+    let after = answers_to_reset_and_put_calls(alloc, &mut clients, 1)?;
     let text = format!(in alloc; "{before}{after}")?;
     let wanted = " Ok(()) Ok(Int(7)) Err(Refused) Err(Refused) Ok(()) Ok(Int(8))";
     assert_eq!(rt; text.as_str(), wanted);
@@ -136,11 +144,15 @@ fn a_reset_fails_after_a_line_too_many(rt: HostRuntime) -> Result<(), Fail> {
     let notes = Arc::new(alloc, Notes::new(alloc)?)?;
     let pipe = String::from_str(alloc, "answers")?;
     std::fs::write(&rt, pipe.as_str(), "")?;
-    let client = Connection::new(alloc, STRAY_LINES.as_bytes(), Vec::new(alloc)).at_pipe(pipe);
-    let mut clients = client_at(rt, alloc, &notes, client)?;
+    let client = Connection::new(
+        alloc,
+        STRAY_LINES.as_bytes(),
+        Vec::new(alloc),
+    ).with_answer_pipe_name(pipe);
+    let mut clients = client_at_connection(rt, alloc, &notes, client)?;
     let mut text = String::new(alloc);
     for calls in [1u32, 0, 1, 0, 0, 0] {
-        text.push_str(answers_to_reset_and_calls(alloc, &mut clients, calls)?.as_str())?;
+        text.push_str(answers_to_reset_and_put_calls(alloc, &mut clients, calls)?.as_str())?;
     }
     let wanted = " Ok(()) Ok(Int(7)) Err(Refused) Ok(()) Ok(Int(8)) Err(Refused) Ok(()) Ok(())";
     assert_eq!(rt; text.as_str(), wanted);
@@ -154,11 +166,11 @@ client 1-1: [\"reset\"] was followed by a line too many: late; print one line fo
 }
 
 #[test]
-fn the_last_line_and_failed_resets_are_known(rt: HostRuntime) -> Result<(), Fail> {
+fn notes_know_last_line_and_failed_resets(rt: HostRuntime) -> Result<(), Fail> {
     let alloc = rt.alloc();
     let notes = Arc::new(alloc, Notes::new(alloc)?)?;
-    let mut clients = one_client(rt, alloc, &notes, "7\nfailed\nfailed\ntrue\n")?;
-    let _ = clients.call(&put(alloc, Value::Int(1))?);
+    let mut clients = client_that_prints_lines(rt, alloc, &notes, "7\nfailed\nfailed\ntrue\n")?;
+    let _ = clients.call(&call_of_put_operation(alloc, Value::Int(1))?);
     let line = notes.waits().printable_last_line_at_place(alloc, 0)?;
     assert_eq!(rt; line.as_str(), "[\"put\",1]");
     assert!(rt; notes.waits().unanswered_line_id(0).is_none());
@@ -187,7 +199,7 @@ fn a_call_is_a_line_of_json(rt: HostRuntime) -> Result<(), Fail> {
     let alloc = rt.alloc();
     let quoted = Text::from_string(String::from_str(alloc, "a \"b\" \\")?);
     let map = map_of_two_values(alloc, Value::Text(quoted), Value::List(Items::new(alloc)))?;
-    let line = client_call_line(alloc, &put(alloc, map)?)?;
+    let line = client_call_line(alloc, &call_of_put_operation(alloc, map)?)?;
     let text = std::str::from_utf8(line.as_slice()).unwrap_or("");
     assert_eq!(rt; text, "[\"put\",{\"-2\":\"a \\\"b\\\" \\\\\",\"3\":[]}]\n");
     Ok(())
@@ -217,7 +229,7 @@ fn answer_kind_letters(alloc: Global, lines: &[&str]) -> Result<String, AllocErr
 }
 
 #[test]
-fn what_is_no_value_is_told_from_values(rt: HostRuntime) -> Result<(), Fail> {
+fn kinds_of_client_lines_are_recognized(rt: HostRuntime) -> Result<(), Fail> {
     let lines = [
         "null",
         "1.5",

@@ -7,7 +7,12 @@ use std::sync::atomic::{AtomicBool, AtomicU64, Ordering};
 use std::thread;
 
 /// Raises a flag, and looks for two others up to `looks` times.
-fn meets_both(own: &AtomicBool, one: &AtomicBool, other: &AtomicBool, looks: u32) -> bool {
+fn raise_flag_then_look_for_others(
+    own: &AtomicBool,
+    one: &AtomicBool,
+    other: &AtomicBool,
+    looks: u32,
+) -> bool {
     own.store(true, Ordering::SeqCst);
     for _ in 0..looks {
         if one.load(Ordering::SeqCst) && other.load(Ordering::SeqCst) {
@@ -25,18 +30,18 @@ pub struct MeetingFlags {
     first: AtomicBool,
     second: AtomicBool,
     third: AtomicBool,
-    are_two: bool,
+    is_third_always_raised: bool,
     looks: u32,
 }
 
 impl MeetingFlags {
     /// Flags that are not raised. `meet` looks for the other flags at most `looks` times.
-    pub fn new(are_two: bool, looks: u32) -> MeetingFlags {
+    pub fn new(is_third_always_raised: bool, looks: u32) -> MeetingFlags {
         MeetingFlags {
             first: AtomicBool::new(false),
             second: AtomicBool::new(false),
-            third: AtomicBool::new(are_two),
-            are_two,
+            third: AtomicBool::new(is_third_always_raised),
+            is_third_always_raised,
             looks,
         }
     }
@@ -54,16 +59,23 @@ impl System for MeetingFlags {
     fn reset(&mut self) -> Result<(), CallFault> {
         self.first.store(false, Ordering::SeqCst);
         self.second.store(false, Ordering::SeqCst);
-        self.third.store(self.are_two, Ordering::SeqCst);
+        self.third
+            .store(self.is_third_always_raised, Ordering::SeqCst);
         Ok(())
     }
 
     fn call(&self, call: &RealCall) -> Result<Value, CallFault> {
         let (first, second, third) = (&self.first, &self.second, &self.third);
         match call.args.as_slice() {
-            [Value::Int(1)] => Ok(Value::Bool(meets_both(first, second, third, self.looks))),
-            [Value::Int(2)] => Ok(Value::Bool(meets_both(second, first, third, self.looks))),
-            [Value::Int(3)] => Ok(Value::Bool(meets_both(third, first, second, self.looks))),
+            [Value::Int(1)] => Ok(Value::Bool(raise_flag_then_look_for_others(
+                first, second, third, self.looks,
+            ))),
+            [Value::Int(2)] => Ok(Value::Bool(raise_flag_then_look_for_others(
+                second, first, third, self.looks,
+            ))),
+            [Value::Int(3)] => Ok(Value::Bool(raise_flag_then_look_for_others(
+                third, first, second, self.looks,
+            ))),
             _ => Err(CallFault::Refused),
         }
     }
@@ -86,7 +98,7 @@ impl CountedOddAnswers {
     }
 }
 
-fn long_text(alloc: Global) -> Result<Text, AllocError> {
+fn text_past_length_limit(alloc: Global) -> Result<Text, AllocError> {
     let mut text = Text::new(alloc);
     for _ in 0..65_537u32 {
         text.push(b'a')?;
@@ -95,11 +107,11 @@ fn long_text(alloc: Global) -> Result<Text, AllocError> {
 }
 
 /// An answer that is of no type, by its number from 0.
-fn odd_answer(alloc: Global, number: u64) -> Result<Value, AllocError> {
+fn odd_answer_by_number(alloc: Global, number: u64) -> Result<Value, AllocError> {
     match number {
         0 => Ok(Value::Var(1)),
         1 => Ok(Value::Ref(1, Boxed::new(alloc, Value::Int(1))?)),
-        _ => Ok(Value::Text(long_text(alloc)?)),
+        _ => Ok(Value::Text(text_past_length_limit(alloc)?)),
     }
 }
 
@@ -118,7 +130,7 @@ impl System for CountedOddAnswers {
 
     fn call(&self, _call: &RealCall) -> Result<Value, CallFault> {
         let number = self.calls.fetch_add(1, Ordering::SeqCst);
-        match odd_answer(self.alloc, number) {
+        match odd_answer_by_number(self.alloc, number) {
             Ok(value) => Ok(value),
             Err(AllocError) => Err(CallFault::NoMemory),
         }

@@ -1,11 +1,11 @@
 //! Systems whose misfits are recorded.
 
-use crate::driving::has_replies_of_run;
+use crate::driving::has_recorded_replies_when_driven;
 use crate::hostile::CountedOddAnswers;
 use pst_driver::{MOST_KEPT, MisfitRecorder, Misfits, misfit_lines_text};
 use pst_system::BoxedSystem;
 use pst_tests::support::{COUNTER, SAYING};
-use pst_tests::systems::{Liar, NoGet};
+use pst_tests::systems::{CounterWithoutGet, Liar};
 use pst_typing::load;
 use std::alloc::{AllocError, Global};
 use std::sync::Arc;
@@ -16,10 +16,10 @@ const TWO_MISFITS: &str =
     "(run (prefix) (left (get)) (right (get)) (replies () (misfit) (misfit)))";
 
 /// A place for misfits, compared with a model.
-fn misfits_over(alloc: Global, model: &str) -> Result<Arc<Misfits, Global>, AllocError> {
+fn empty_misfits_for_model(alloc: Global, model: &str) -> Result<Arc<Misfits, Global>, AllocError> {
     let misfits = Misfits::new(alloc)?;
     if let Ok(file) = load(alloc, model.as_bytes())? {
-        misfits.set_model(file.typed);
+        misfits.set_model_if_unset(file.typed);
     }
     Ok(Arc::new(alloc, misfits)?)
 }
@@ -27,12 +27,15 @@ fn misfits_over(alloc: Global, model: &str) -> Result<Arc<Misfits, Global>, Allo
 /// Five times a misfit in each of two branches at once: eight of the ten are kept, and the replies are those of the
 /// system.
 #[test]
-fn eight_misfits_are_kept(rt: HostRuntime) -> Result<(), Fail> {
+fn eight_of_ten_misfits_are_kept(rt: HostRuntime) -> Result<(), Fail> {
     let alloc = rt.alloc();
-    let misfits = misfits_over(alloc, COUNTER)?;
+    let misfits = empty_misfits_for_model(alloc, COUNTER)?;
     let mut liar: BoxedSystem = Box::new(alloc, MisfitRecorder::new(Liar, Some(misfits.clone()?)))?;
     for _ in 0..5u8 {
-        assert!(rt; has_replies_of_run(&rt, alloc, COUNTER, TWO_MISFITS, &mut liar) == Some(true));
+        assert!(rt;
+            has_recorded_replies_when_driven(&rt, alloc, COUNTER, TWO_MISFITS, &mut liar)
+                == Some(true)
+        );
     }
     assert_eq!(rt; misfits.count(), 10);
     let text = misfit_lines_text(alloc, &misfits)?;
@@ -45,16 +48,18 @@ fn eight_misfits_are_kept(rt: HostRuntime) -> Result<(), Fail> {
 
 /// Answers that are of no type are spelled: a variable, a reference, and a text that is too long, which is cut.
 #[test]
-fn odd_answers_are_spelled(rt: HostRuntime) -> Result<(), Fail> {
+fn misfit_lines_spell_odd_answers(rt: HostRuntime) -> Result<(), Fail> {
     let alloc = rt.alloc();
-    let misfits = misfits_over(alloc, SAYING)?;
+    let misfits = empty_misfits_for_model(alloc, SAYING)?;
     let mut odd: BoxedSystem = Box::new(
         alloc,
         MisfitRecorder::new(CountedOddAnswers::new(alloc), Some(misfits.clone()?)),
     )?;
     let item = "(run (prefix (inc)) (left) (right) (replies (misfit) () ()))";
     for _ in 0..3u8 {
-        assert!(rt; has_replies_of_run(&rt, alloc, SAYING, item, &mut odd) == Some(true));
+        assert!(rt;
+            has_recorded_replies_when_driven(&rt, alloc, SAYING, item, &mut odd) == Some(true)
+        );
     }
     let text = misfit_lines_text(alloc, &misfits)?;
     let wanted = "misfit: (inc) answered $1, wanted text\n\
@@ -66,18 +71,20 @@ fn odd_answers_are_spelled(rt: HostRuntime) -> Result<(), Fail> {
 
 /// A call that is refused and an answer of the operation's result type are no misfits.
 #[test]
-fn what_fits_is_not_noted(rt: HostRuntime) -> Result<(), Fail> {
+fn no_misfit_without_a_wrong_type(rt: HostRuntime) -> Result<(), Fail> {
     let alloc = rt.alloc();
-    let misfits = misfits_over(alloc, COUNTER)?;
+    let misfits = empty_misfits_for_model(alloc, COUNTER)?;
     let mut no_get: BoxedSystem = Box::new(
         alloc,
-        MisfitRecorder::new(NoGet::new(), Some(misfits.clone()?)),
+        MisfitRecorder::new(CounterWithoutGet::new(), Some(misfits.clone()?)),
     )?;
     let item =
         "(run (prefix (inc)) (left (get) (inc)) (right (inc)) (replies (1) (failed not-run) (2)))";
     // Driven twice, since each drive resets the system.
     for _ in 0..2u8 {
-        assert!(rt; has_replies_of_run(&rt, alloc, COUNTER, item, &mut no_get) == Some(true));
+        assert!(rt;
+            has_recorded_replies_when_driven(&rt, alloc, COUNTER, item, &mut no_get) == Some(true)
+        );
     }
     assert!(rt; misfit_lines_text(alloc, &misfits)?.is_empty());
     Ok(())
@@ -85,12 +92,15 @@ fn what_fits_is_not_noted(rt: HostRuntime) -> Result<(), Fail> {
 
 /// Nothing is noted without a place for misfits, or before there is a model.
 #[test]
-fn nothing_is_noted_without_a_model(rt: HostRuntime) -> Result<(), Fail> {
+fn misfits_are_unrecorded_without_a_model(rt: HostRuntime) -> Result<(), Fail> {
     let alloc = rt.alloc();
     let misfits = Arc::new(alloc, Misfits::new(alloc)?)?;
     for place in [Some(misfits.clone()?), None] {
         let mut liar: BoxedSystem = Box::new(alloc, MisfitRecorder::new(Liar, place))?;
-        assert!(rt; has_replies_of_run(&rt, alloc, COUNTER, TWO_MISFITS, &mut liar) == Some(true));
+        assert!(rt;
+            has_recorded_replies_when_driven(&rt, alloc, COUNTER, TWO_MISFITS, &mut liar)
+                == Some(true)
+        );
     }
     assert_eq!(rt; misfits.count(), 0);
     Ok(())

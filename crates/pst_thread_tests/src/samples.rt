@@ -22,7 +22,7 @@ const QUEUE: &str = "(model q (state (list int)) (init (list int))
 type Row = (&'static str, &'static str, Status, &'static str);
 
 /// The status and the text of `pst run` for a model and an item on the system.
-fn written<R: Threads + Wait>(
+fn status_and_output_of_run_subcommand<R: Threads + Wait>(
     rt: &R,
     alloc: Global,
     system: &mut BoxedSystem,
@@ -36,7 +36,7 @@ fn written<R: Threads + Wait>(
 }
 
 /// How many rows have another status or text of `pst run` on the system.
-fn count_differing_rows<R: Threads + Wait>(
+fn count_rows_with_unexpected_output<R: Threads + Wait>(
     rt: &R,
     alloc: Global,
     system: &mut BoxedSystem,
@@ -44,7 +44,7 @@ fn count_differing_rows<R: Threads + Wait>(
 ) -> Result<usize, AllocError> {
     let mut missed: usize = 0;
     for (model, item, status, text) in rows {
-        let (answer, bytes) = written(rt, alloc, system, model, item)?;
+        let (answer, bytes) = status_and_output_of_run_subcommand(rt, alloc, system, model, item)?;
         if answer != *status || bytes.as_slice() != text.as_bytes() {
             missed = missed.saturating_add(1);
         }
@@ -53,7 +53,7 @@ fn count_differing_rows<R: Threads + Wait>(
 }
 
 #[test]
-fn counters_are_driven(rt: HostRuntime) -> Result<(), Fail> {
+fn driven_counters_give_expected_output(rt: HostRuntime) -> Result<(), Fail> {
     let alloc = rt.alloc();
     let mut counter: BoxedSystem = Box::new(alloc, Counter::new(rt))?;
     let rows = [
@@ -70,12 +70,12 @@ fn counters_are_driven(rt: HostRuntime) -> Result<(), Fail> {
             "(run (prefix) (left (meet 1)) (right) (replies () (failed) ()))\n1 broken 1\n",
         ),
     ];
-    assert!(rt; count_differing_rows(&rt, alloc, &mut counter, &rows)? == 0);
+    assert!(rt; count_rows_with_unexpected_output(&rt, alloc, &mut counter, &rows)? == 0);
     Ok(())
 }
 
 #[test]
-fn a_stuck_counter_is_driven(rt: HostRuntime) -> Result<(), Fail> {
+fn a_driven_stuck_counter_is_unexplained(rt: HostRuntime) -> Result<(), Fail> {
     let alloc = rt.alloc();
     let mut stuck: BoxedSystem = Box::new(alloc, Stuck)?;
     let rows = [(
@@ -84,12 +84,12 @@ fn a_stuck_counter_is_driven(rt: HostRuntime) -> Result<(), Fail> {
         Status::Failed,
         "(run (prefix (inc)) (left) (right) (replies (0) () ()))\n1 unexplained far 0\n",
     )];
-    assert!(rt; count_differing_rows(&rt, alloc, &mut stuck, &rows)? == 0);
+    assert!(rt; count_rows_with_unexpected_output(&rt, alloc, &mut stuck, &rows)? == 0);
     Ok(())
 }
 
 #[test]
-fn registries_are_driven(rt: HostRuntime) -> Result<(), Fail> {
+fn driven_registries_give_expected_output(rt: HostRuntime) -> Result<(), Fail> {
     let alloc = rt.alloc();
     let mut registry: BoxedSystem = Box::new(alloc, Registry::new(rt, alloc))?;
     let rows = [
@@ -113,12 +113,12 @@ fn registries_are_driven(rt: HostRuntime) -> Result<(), Fail> {
             "(run (prefix (new)) (left) (right) (replies (0) () ()))\n1 explained -\n",
         ),
     ];
-    assert!(rt; count_differing_rows(&rt, alloc, &mut registry, &rows)? == 0);
+    assert!(rt; count_rows_with_unexpected_output(&rt, alloc, &mut registry, &rows)? == 0);
     Ok(())
 }
 
 #[test]
-fn queues_are_driven(rt: HostRuntime) -> Result<(), Fail> {
+fn driven_queues_give_expected_output(rt: HostRuntime) -> Result<(), Fail> {
     let alloc = rt.alloc();
     let mut queue: BoxedSystem = Box::new(alloc, Queue::new(rt, alloc))?;
     let rows = [
@@ -136,12 +136,12 @@ fn queues_are_driven(rt: HostRuntime) -> Result<(), Fail> {
             "(run (prefix (take)) (left) (right) (replies ((list)) () ()))\n1 explained -\n",
         ),
     ];
-    assert!(rt; count_differing_rows(&rt, alloc, &mut queue, &rows)? == 0);
+    assert!(rt; count_rows_with_unexpected_output(&rt, alloc, &mut queue, &rows)? == 0);
     Ok(())
 }
 
 #[test]
-fn callers_are_driven_at_once(rt: HostRuntime) -> Result<(), Fail> {
+fn driven_meet_system_gives_expected_output(rt: HostRuntime) -> Result<(), Fail> {
     let alloc = rt.alloc();
     let mut meet: BoxedSystem = Box::new(alloc, Meet::new())?;
     let rows = [
@@ -159,12 +159,12 @@ fn callers_are_driven_at_once(rt: HostRuntime) -> Result<(), Fail> {
             "(run (prefix) (left (meet 1)) (right) (replies () (false) ()))\n1 unexplained far 0\n",
         ),
     ];
-    assert!(rt; count_differing_rows(&rt, alloc, &mut meet, &rows)? == 0);
+    assert!(rt; count_rows_with_unexpected_output(&rt, alloc, &mut meet, &rows)? == 0);
     Ok(())
 }
 
 #[test]
-fn other_systems_are_refused(rt: HostRuntime) {
+fn unknown_systems_are_refused(rt: HostRuntime) {
     assert!(rt; is_known_system("meet") && !is_known_system("none"));
     let mut out = Out::new(Vec::new(rt.alloc()));
     assert_eq!(rt;

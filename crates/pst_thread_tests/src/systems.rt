@@ -1,14 +1,18 @@
 //! Calls of the sample systems.
 
 use pst_samples::{Counter, Flags, Meet, Pair, Queue, Racy, Registry, Side, Stuck};
-use pst_system::{BoxedSystem, RealCall, call_box, reset_box};
+use pst_system::{BoxedSystem, RealCall, call_boxed_system, reset_boxed_system};
 use pst_value::{Items, Text, Value};
 use std::alloc::{AllocError, Global};
 use std::sync::Arc;
 use std::test::Fail;
 
 /// The call of that name with integers as arguments.
-fn call_of(alloc: Global, name: &str, numbers: &[i64]) -> Result<RealCall, AllocError> {
+fn real_call_with_integer_arguments(
+    alloc: Global,
+    name: &str,
+    numbers: &[i64],
+) -> Result<RealCall, AllocError> {
     let name = Text::from_string(String::from_str(alloc, name)?);
     let mut args = Items::new(alloc);
     for number in numbers {
@@ -25,8 +29,8 @@ fn answers_to_calls(
 ) -> Result<String, AllocError> {
     let mut text = String::new(alloc);
     for (name, numbers) in calls {
-        let call = call_of(alloc, name, numbers)?;
-        let answer = call_box(system, 0, &call);
+        let call = real_call_with_integer_arguments(alloc, name, numbers)?;
+        let answer = call_boxed_system(system, 0, &call);
         write!(&mut text, " {answer:?}")?;
     }
     Ok(text)
@@ -50,7 +54,7 @@ fn a_racy_counter_is_reset(rt: HostRuntime) -> Result<(), Fail> {
     let alloc = rt.alloc();
     let mut racy: BoxedSystem = Box::new(alloc, Racy::new())?;
     let before = answers_to_calls(alloc, &racy, &[("inc", &[])])?;
-    let reset = reset_box(&mut racy);
+    let reset = reset_boxed_system(&mut racy);
     let after = answers_to_calls(alloc, &racy, &[("get", &[])])?;
     let all = format!(in alloc; "{before} {reset:?}{after}")?;
     assert_eq!(rt; all.as_str(), " Ok(Int(1)) Ok(()) Ok(Int(0))");
@@ -58,7 +62,7 @@ fn a_racy_counter_is_reset(rt: HostRuntime) -> Result<(), Fail> {
 }
 
 #[test]
-fn a_stuck_counter_stays_at_0(rt: HostRuntime) -> Result<(), Fail> {
+fn a_stuck_counter_answers_zero(rt: HostRuntime) -> Result<(), Fail> {
     let alloc = rt.alloc();
     let stuck: BoxedSystem = Box::new(alloc, Stuck)?;
     let text = answers_to_calls(alloc, &stuck, &[("inc", &[])])?;
@@ -99,11 +103,15 @@ fn a_queue_keeps_its_order(rt: HostRuntime) -> Result<(), Fail> {
 }
 
 /// How many of `count` calls of `put` a system refuses.
-fn refused_puts(alloc: Global, system: &BoxedSystem, count: u32) -> Result<u32, AllocError> {
-    let call = call_of(alloc, "put", &[1])?;
+fn put_items_and_count_refusals(
+    alloc: Global,
+    system: &BoxedSystem,
+    count: u32,
+) -> Result<u32, AllocError> {
+    let call = real_call_with_integer_arguments(alloc, "put", &[1])?;
     let mut refused: u32 = 0;
     for _ in 0..count {
-        if call_box(system, 0, &call).is_err() {
+        if call_boxed_system(system, 0, &call).is_err() {
             refused = refused.saturating_add(1);
         }
     }
@@ -111,16 +119,16 @@ fn refused_puts(alloc: Global, system: &BoxedSystem, count: u32) -> Result<u32, 
 }
 
 #[test]
-fn a_queue_has_room_for_1024_items(rt: HostRuntime) -> Result<(), Fail> {
+fn a_full_queue_refuses_items(rt: HostRuntime) -> Result<(), Fail> {
     let alloc = rt.alloc();
     let queue: BoxedSystem = Box::new(alloc, Queue::new(rt, alloc))?;
-    assert_eq!(rt; refused_puts(alloc, &queue, 1024)?, 0);
-    assert_eq!(rt; refused_puts(alloc, &queue, 2)?, 2);
+    assert_eq!(rt; put_items_and_count_refusals(alloc, &queue, 1024)?, 0);
+    assert_eq!(rt; put_items_and_count_refusals(alloc, &queue, 2)?, 2);
     Ok(())
 }
 
 #[test]
-fn a_flag_that_is_none_is_refused(rt: HostRuntime) -> Result<(), Fail> {
+fn an_unknown_flag_is_refused(rt: HostRuntime) -> Result<(), Fail> {
     let alloc = rt.alloc();
     let meet: BoxedSystem = Box::new(alloc, Meet::new())?;
     let text = answers_to_calls(alloc, &meet, &[("meet", &[3])])?;
@@ -129,7 +137,7 @@ fn a_flag_that_is_none_is_refused(rt: HostRuntime) -> Result<(), Fail> {
 }
 
 #[test]
-fn callers_meet(rt: HostRuntime) -> Result<(), Fail> {
+fn a_second_caller_meets_the_first(rt: HostRuntime) -> Result<(), Fail> {
     let alloc = rt.alloc();
     let flags = Arc::new(alloc, Flags::new())?;
     let pair: BoxedSystem = Box::new(alloc, Pair::new(Side::Second, flags.clone()?))?;

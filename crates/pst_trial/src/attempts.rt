@@ -64,10 +64,10 @@ pub(crate) fn drive_and_judge_case_while_explained<D: Driver>(
     Ok(AttemptOutcome::Held(runs))
 }
 
-/// Attempts at the shrink candidates of a trial: each that is valid by the plan's model is driven up to
+/// ShrinkAttempts at the shrink candidates of a trial: each that is valid by the plan's model is driven up to
 /// `repeats` times, while its histories are explained.
 #[derive(Drop)]
-pub(crate) struct Attempts<'a, D> {
+pub(crate) struct ShrinkAttempts<'a, D> {
     pub alloc: Global,
     pub plan: &'a Plan,
     pub driver: &'a mut D,
@@ -75,7 +75,7 @@ pub(crate) struct Attempts<'a, D> {
     pub driven: u64,
 }
 
-impl<'a, D: Driver> Attempt for Attempts<'a, D> {
+impl<'a, D: Driver> Attempt for ShrinkAttempts<'a, D> {
     ghost use Rattle.std.specs.Prelude.{◌≡◌};
     ghost use Rattle.std.proofs.Common.{refl, ◌∙◌};
     ghost use Rattle.pst_trial.specs.Moving.{kept_by};
@@ -106,7 +106,7 @@ impl<'a, D: Driver> Attempt for Attempts<'a, D> {
         let Some(valid) = accepted else {
             return Ok(AttemptOutcome::NotValid);
         };
-        self.driver.candidate_begins(self.driven);
+        self.driver.note_next_candidate(self.driven);
         let outcome = match drive_and_judge_case_while_explained(
             self.alloc,
             self.plan,

@@ -11,7 +11,7 @@ use rand_pcg::Pcg64;
 use std::alloc::{AllocError, Global};
 
 /// Returns the valid case of trial `number`, or the fault of a callback if the trial has no case.
-pub fn trial_case(
+pub fn generate_trial_case(
     alloc: Global,
     plan: &Plan,
     number: u64,

@@ -12,7 +12,7 @@ use crate::record::Record;
 use crate::shrinking::ShrinkProgress;
 use crate::trials::run_trial_with_driver;
 use pst_case::History;
-use pst_driver::{Crew, DriveFault, Relations, Subject, drive_valid_case_with_crew};
+use pst_driver::{Crew, DriveFault, Relations, Subject, drive_case_with_crew_and_check};
 use pst_judge::Valid;
 use pst_model::Typed;
 use std::alloc::Global;
@@ -49,11 +49,12 @@ impl<'r, 'c, 's, J: Relations, S: Subject, R: Wait> Driver for CrewDriver<'r, 'c
         typed: &Typed,
         valid: &Valid,
     ) -> Result<History, DriveFault> {
-        drive_valid_case_with_crew(self.rt, alloc, self.crew, typed, valid)
+        drive_case_with_crew_and_check(self.rt, alloc, self.crew, typed, valid)
     }
 
-    fn candidate_begins(&self, driven: u64) {
-        self.shrinking.begin_candidate(self.number, driven);
+    fn note_next_candidate(&self, driven: u64) {
+        self.shrinking
+            .show_candidate_unless_superseded(self.number, driven);
     }
 
     ghost keeps_refl = { λ a. tt };
@@ -63,7 +64,7 @@ impl<'r, 'c, 's, J: Relations, S: Subject, R: Wait> Driver for CrewDriver<'r, 'c
     ghost steady = { λ a b p. steady_same _ _ };
 }
 
-/// Does what `trial_with_progress` does, on the system of a crew and with its threads, which run by the model of the
+/// Does what `run_trial_with_progress` does, on the system of a crew and with its threads, which run by the model of the
 /// plan.
 pub fn run_trial_with_crew<J: Relations, S: Subject, R: Wait>(
     rt: &R,

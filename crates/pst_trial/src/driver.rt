@@ -36,7 +36,7 @@ pub trait Driver {
         ensures keeps { keeps self.old self.new };
 
     /// A shrink candidate of the trial is driven next, after this number of others. A driver may say so to somebody.
-    fn candidate_begins(&self, _driven: u64) {}
+    fn note_next_candidate(&self, _driven: u64) {}
 
     /// A value that does not change keeps everything.
     ghost keeps_refl: { (a : Self) → keeps a a };

@@ -20,7 +20,7 @@ mod shrinking;
 mod threads;
 mod trials;
 
-pub use cases::trial_case;
+pub use cases::generate_trial_case;
 pub use crews::{CrewDriver, run_trial_with_crew};
 pub use driver::Driver;
 pub use outcome::TrialOutcome;
@@ -32,7 +32,7 @@ pub use run::JudgedRun;
 pub use settings::{
     MAX_BRANCHES, MAX_COMMANDS, MAX_LIMIT, MAX_REPEATS, MAX_SUFFIX, MAX_TRIALS, Settings,
 };
-pub use sharing::may_share_records;
+pub use sharing::prove_records_are_send_and_sync;
 pub use shrinking::ShrinkProgress;
-pub use threads::{ThreadDriver, trial, trial_with_progress};
+pub use threads::{ThreadDriver, run_trial_with_progress, trial};
 pub use trials::run_trial_with_driver;

@@ -23,32 +23,32 @@ use pst_shrink::FailingCase;
 use pst_value::Items;
 
 /// What is `Send` may be sent to a thread.
-fn may_send<T: Send>()
+fn prove_send<T: Send>()
     ensures { IsSend T.row }
 {}
 
 /// What is `Sync` may be shared by threads.
-fn may_share<T: Sync>()
+fn prove_sync<T: Sync>()
     ensures { IsSync T.row }
 {}
 
 /// Plans may be sent to threads, and shared by them.
-fn may_share_plans()
+fn prove_plans_are_send_and_sync()
     ensures sent { IsSend plan_row }
     ensures shared { IsSync plan_row }
 {
-    may_send::<Typed>();
-    may_share::<Typed>();
-    may_send::<Code>();
-    may_share::<Code>();
-    may_send::<Compiled>();
-    may_share::<Compiled>();
-    may_send::<Plan>();
-    may_share::<Plan>()
+    prove_send::<Typed>();
+    prove_sync::<Typed>();
+    prove_send::<Code>();
+    prove_sync::<Code>();
+    prove_send::<Compiled>();
+    prove_sync::<Compiled>();
+    prove_send::<Plan>();
+    prove_sync::<Plan>()
 }
 
 /// The parts of what came of shrinking may be sent to threads, and shared by them.
-fn threads_may_share_failing_cases()
+fn prove_failing_cases_are_send_and_sync()
     ensures taken_sent { IsSend (taken_row run_row) }
     ensures taken_shared { IsSync (taken_row run_row) }
     ensures all_taken_sent { IsSend (items_row (taken_row run_row)) }
@@ -56,24 +56,24 @@ fn threads_may_share_failing_cases()
     ensures tried_sent { IsSend (items_row (option_row (items_row run_row))) }
     ensures tried_shared { IsSync (items_row (option_row (items_row run_row))) }
 {
-    may_send::<FailingCase<JudgedRun>>();
-    may_share::<FailingCase<JudgedRun>>();
-    may_send::<Items<FailingCase<JudgedRun>>>();
-    may_share::<Items<FailingCase<JudgedRun>>>();
-    may_send::<Items<Option<Items<JudgedRun>>>>();
-    may_share::<Items<Option<Items<JudgedRun>>>>()
+    prove_send::<FailingCase<JudgedRun>>();
+    prove_sync::<FailingCase<JudgedRun>>();
+    prove_send::<Items<FailingCase<JudgedRun>>>();
+    prove_sync::<Items<FailingCase<JudgedRun>>>();
+    prove_send::<Items<Option<Items<JudgedRun>>>>();
+    prove_sync::<Items<Option<Items<JudgedRun>>>>()
 }
 
 /// What came of shrinking may be sent to threads, and shared by them.
-fn may_share_shrunk()
+fn prove_shrunk_is_send_and_sync()
     ensures sent { IsSend (shrunk_row run_row) }
     ensures shared { IsSync (shrunk_row run_row) }
 {
-    threads_may_share_failing_cases()
+    prove_failing_cases_are_send_and_sync()
 }
 
 /// The parts of outcomes may be sent to threads, and shared by them.
-fn threads_may_share_outcome_parts()
+fn prove_outcome_parts_are_send_and_sync()
     ensures place_sent { IsSend place_row }
     ensures place_shared { IsSync place_row }
     ensures case_sent { IsSend case_row }
@@ -83,30 +83,30 @@ fn threads_may_share_outcome_parts()
     ensures shrunk_sent { IsSend (shrunk_row run_row) }
     ensures shrunk_shared { IsSync (shrunk_row run_row) }
 {
-    may_send::<FaultPlace>();
-    may_share::<FaultPlace>();
-    may_send::<Case>();
-    may_share::<Case>();
-    may_send::<Items<JudgedRun>>();
-    may_share::<Items<JudgedRun>>();
-    may_share_shrunk()
+    prove_send::<FaultPlace>();
+    prove_sync::<FaultPlace>();
+    prove_send::<Case>();
+    prove_sync::<Case>();
+    prove_send::<Items<JudgedRun>>();
+    prove_sync::<Items<JudgedRun>>();
+    prove_shrunk_is_send_and_sync()
 }
 
 /// Outcomes of trials may be sent to threads, and shared by them.
-fn may_share_outcomes()
+fn prove_outcomes_are_send_and_sync()
     ensures sent { IsSend outcome_row }
     ensures shared { IsSync outcome_row }
 {
-    threads_may_share_outcome_parts()
+    prove_outcome_parts_are_send_and_sync()
 }
 
 /// A law: records may be sent to threads, and shared by them, and so may plans. The function does nothing.
-pub fn may_share_records()
+pub fn prove_records_are_send_and_sync()
     ensures plan_sent { IsSend plan_row }
     ensures plan_shared { IsSync plan_row }
     ensures sent { IsSend record_row }
     ensures shared { IsSync record_row }
 {
-    may_share_plans();
-    may_share_outcomes()
+    prove_plans_are_send_and_sync();
+    prove_outcomes_are_send_and_sync()
 }

@@ -66,8 +66,9 @@ impl<'a, R: Threads + Wait> Driver for ThreadDriver<'a, R> {
         run(self.rt, alloc, typed, self.system, valid)
     }
 
-    fn candidate_begins(&self, driven: u64) {
-        self.shrinking.begin_candidate(self.number, driven);
+    fn note_next_candidate(&self, driven: u64) {
+        self.shrinking
+            .show_candidate_unless_superseded(self.number, driven);
     }
 
     ghost keeps_refl = { λ a. (refl, kept_same _ _ _) };
@@ -101,11 +102,11 @@ pub fn trial<R: Threads + Wait>(
         (fails system.new) (fails system.old)
         (reset_fails system.new) (reset_fails system.old) }
 {
-    trial_with_progress(rt, alloc, plan, number, system, &ShrinkProgress::new())
+    run_trial_with_progress(rt, alloc, plan, number, system, &ShrinkProgress::new())
 }
 
 /// Does what [`trial`] does, and counts in `shrinking` the candidates that it drives while the case is shrunk.
-pub fn trial_with_progress<R: Threads + Wait>(
+pub fn run_trial_with_progress<R: Threads + Wait>(
     rt: &R,
     alloc: Global,
     plan: &Arc<Plan>,

@@ -7,8 +7,8 @@ ghost use Rattle.pst_trial.specs.JudgedRuns.{IsAnswer, MayFail};
 ghost use Rattle.pst_trial.specs.Sound.{IsSoundBy, IsTried};
 
 use crate::TrialFault;
-use crate::attempts::{Attempts, drive_and_judge_case_while_explained};
-use crate::cases::trial_case;
+use crate::attempts::{ShrinkAttempts, drive_and_judge_case_while_explained};
+use crate::cases::generate_trial_case;
 use crate::driver::Driver;
 use crate::outcome::TrialOutcome;
 use crate::plan::Plan;
@@ -23,7 +23,7 @@ use std::alloc::Global;
 use std::sync::Arc;
 
 /// Shrinks a case that has a run that is not explained.
-fn shrink_case<D: Driver>(
+fn shrink_failing_case<D: Driver>(
     alloc: Global,
     plan: &Plan,
     driver: &mut D,
@@ -39,7 +39,7 @@ fn shrink_case<D: Driver>(
     ensures keeps { D.keeps driver.old driver.new }
 {
     let limit = plan.settings().limit;
-    let mut attempts = Attempts {
+    let mut attempts = ShrinkAttempts {
         alloc,
         plan,
         driver,
@@ -53,7 +53,7 @@ fn shrink_case<D: Driver>(
 }
 
 /// Drives a valid case, and shrinks it if a run is not explained.
-fn drive_and_shrink_trial_case<D: Driver>(
+fn drive_case_and_shrink_if_unexplained<D: Driver>(
     alloc: Global,
     plan: &Plan,
     driver: &mut D,
@@ -72,14 +72,16 @@ fn drive_and_shrink_trial_case<D: Driver>(
     let case = valid.into_shaped().into_case();
     match outcome {
         AttemptOutcome::Held(runs) => Ok(TrialOutcome::Passed { case, runs }),
-        AttemptOutcome::Broke(earlier, run) => shrink_case(alloc, plan, driver, case, earlier, run),
+        AttemptOutcome::Broke(earlier, run) => shrink_failing_case(
+            alloc, plan, driver, case, earlier, run,
+        ),
         AttemptOutcome::NotValid => unreachable!(),
     }
 }
 
 /// Returns the outcome of trial `number`: generates its case, drives and judges it, and shrinks it if a run is
 /// not explained.
-fn generate_drive_and_shrink<D: Driver>(
+fn generate_drive_and_shrink_trial_case<D: Driver>(
     alloc: Global,
     plan: &Plan,
     number: u64,
@@ -89,8 +91,8 @@ fn generate_drive_and_shrink<D: Driver>(
     ensures fault { IfErr result (MayFail (D.may_fail driver.old)) }
     ensures keeps { D.keeps driver.old driver.new }
 {
-    match trial_case(alloc, plan, number)? {
-        Ok(valid) => drive_and_shrink_trial_case(alloc, plan, driver, valid),
+    match generate_trial_case(alloc, plan, number)? {
+        Ok(valid) => drive_case_and_shrink_if_unexplained(alloc, plan, driver, valid),
         Err(place) => Ok(TrialOutcome::GenFaulted(place)),
     }
 }
@@ -114,7 +116,7 @@ pub fn run_trial_with_driver<D: Driver>(
     ensures keeps { D.keeps driver.old driver.new }
 {
     let shared = Arc::try_clone(plan)?;
-    match generate_drive_and_shrink(alloc, plan, number, driver) {
+    match generate_drive_and_shrink_trial_case(alloc, plan, number, driver) {
         Ok(outcome) => Ok(Record::new(shared, number, outcome)),
         Err(fault) => Err(fault),
     }

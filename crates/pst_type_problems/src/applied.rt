@@ -1,8 +1,8 @@
 //! Applications of functions and calls of operations.
 
 use crate::diagnose::BlamedPart;
-use crate::operands::{has_references_in_place_of_values, operand_type_problem, with_only_note};
-use crate::spelling::type_text_of_kind;
+use crate::operands::{has_references_in_place_of_values, operand_type_mismatch, with_only_note};
+use crate::spelling::shortened_type_text_of_kind;
 use crate::trees::tree_part_or_whole;
 use pst_model::{Expr, Fun, Item, Param};
 use pst_sexpr::word_of;
@@ -28,7 +28,7 @@ fn find_declared_function<'a>(items: &'a [Item], name: &str) -> Option<&'a Fun> 
 }
 
 /// Whether argument `argument` has the type of parameter `parameter`, both counted from 0.
-fn has_argument_type_of_parameter(
+fn is_argument_of_parameter_type(
     blamed: &BlamedPart<'_>,
     params: &[Param],
     argument: usize,
@@ -47,7 +47,7 @@ fn first_ill_typed_argument(
     from: usize,
 ) -> Result<Option<usize>, AllocError> {
     for place in from..params.len() {
-        if !has_argument_type_of_parameter(blamed, params, place, place)? {
+        if !is_argument_of_parameter_type(blamed, params, place, place)? {
             return Ok(Some(place));
         }
     }
@@ -64,10 +64,10 @@ fn are_two_arguments_swapped(
     let Some(second) = first_ill_typed_argument(blamed, params, first.saturating_add(1))? else {
         return Ok(false);
     };
-    if !has_argument_type_of_parameter(blamed, params, first, second)? {
+    if !is_argument_of_parameter_type(blamed, params, first, second)? {
         return Ok(false);
     }
-    if !has_argument_type_of_parameter(blamed, params, second, first)? {
+    if !is_argument_of_parameter_type(blamed, params, second, first)? {
         return Ok(false);
     }
     Ok(first_ill_typed_argument(blamed, params, second.saturating_add(1))?.is_none())
@@ -84,7 +84,7 @@ fn with_declaration_note(
 
 /// The problem `refused` of an argument of a call for the parameter `called`. If it is the result of an earlier call, its
 /// only note says how the parameter is declared.
-fn with_reference_parameter_hint(
+fn with_only_hint_if_reference_argument(
     blamed: &BlamedPart<'_>,
     refused: Option<Problem>,
     called: &str,
@@ -96,7 +96,7 @@ fn with_reference_parameter_hint(
     {
         return Ok(refused);
     }
-    let declared = type_text_of_kind(blamed.alloc, found)?;
+    let declared = shortened_type_text_of_kind(blamed.alloc, found)?;
     let hint = format_args!(
         "hint: for results of earlier calls declare the parameter as `({called} {declared})`, and `deref` it in post (docs/language.md, Patterns)"
     );
@@ -121,14 +121,14 @@ fn argument_type_problem(
     let called = param.name.as_str();
     let name = declared.name;
     let what = format_args!("the parameter {called} of `{name}`");
-    let refused = operand_type_problem(blamed, what, part, &wanted, found)?;
-    let refused = with_reference_parameter_hint(blamed, refused, called, &wanted, found)?;
+    let refused = operand_type_mismatch(blamed, what, part, &wanted, found)?;
+    let refused = with_only_hint_if_reference_argument(blamed, refused, called, &wanted, found)?;
     with_declaration_note(blamed, refused, declared)
 }
 
 /// The problem of argument `place`, as [`argument_type_problem`] returns it, with a hint if two arguments would fit in the other
 /// order.
-fn argument_problem_with_order_hint(
+fn argument_problem_with_hint_if_swapped(
     blamed: &BlamedPart<'_>,
     declared: &SignatureText<'_>,
     place: usize,
@@ -143,7 +143,7 @@ fn argument_problem_with_order_hint(
 }
 
 /// The problem of arguments whose number is not that of the parameters.
-fn argument_count_type_problem(
+fn problem_of_wrong_argument_count(
     blamed: &BlamedPart<'_>,
     declared: &SignatureText<'_>,
 ) -> FoundProblem {
@@ -166,10 +166,10 @@ fn argument_count_or_type_problem(
     first: usize,
 ) -> FoundProblem {
     if blamed.kinds.len() != declared.params.len() {
-        return argument_count_type_problem(blamed, declared);
+        return problem_of_wrong_argument_count(blamed, declared);
     }
     match first_ill_typed_argument(blamed, declared.params, 0)? {
-        Some(place) => argument_problem_with_order_hint(
+        Some(place) => argument_problem_with_hint_if_swapped(
             blamed,
             declared,
             place,
@@ -197,7 +197,7 @@ fn unknown_callee_problem(
 }
 
 /// The problem of a call of an operation, if it has one.
-pub fn operation_call_type_problem(blamed: &BlamedPart<'_>) -> FoundProblem {
+pub fn operation_call_problem_if_any(blamed: &BlamedPart<'_>) -> FoundProblem {
     let Some(name) = word_of(tree_part_or_whole(blamed.form, 1)) else {
         return Ok(None);
     };
@@ -259,7 +259,7 @@ fn unknown_function_problem(blamed: &BlamedPart<'_>, name: &str) -> FoundProblem
 }
 
 /// The problem of a declared function that may not be applied here, if it may not.
-fn inapplicable_function_problem(blamed: &BlamedPart<'_>, fun: &Fun) -> FoundProblem {
+fn problem_if_function_is_inapplicable(blamed: &BlamedPart<'_>, fun: &Fun) -> FoundProblem {
     let name = fun.name.as_str();
     if find_declared_function(blamed.context.earlier, name).is_none() {
         return problem_with_note_at_part(
@@ -283,7 +283,7 @@ fn inapplicable_function_problem(blamed: &BlamedPart<'_>, fun: &Fun) -> FoundPro
 }
 
 /// The problem of an application of a function, if it has one.
-pub fn function_application_type_problem(blamed: &BlamedPart<'_>, name: &str) -> FoundProblem {
+pub fn function_application_problem_if_any(blamed: &BlamedPart<'_>, name: &str) -> FoundProblem {
     let Some(fun) = find_declared_function(blamed.context.items, name) else {
         return unknown_function_problem(blamed, name);
     };
@@ -292,7 +292,7 @@ pub fn function_application_type_problem(blamed: &BlamedPart<'_>, name: &str) ->
         params: fun.params.as_slice(),
         gives: &fun.result,
     };
-    match inapplicable_function_problem(blamed, fun)? {
+    match problem_if_function_is_inapplicable(blamed, fun)? {
         Some(found) => Ok(Some(found)),
         None => argument_count_or_type_problem(blamed, &declared, 1),
     }

@@ -1,15 +1,16 @@
 //! What is wrong with the part of an expression that is to blame, by the types of its parts.
 
-use crate::applied::{function_application_type_problem, operation_call_type_problem};
+use crate::applied::{function_application_problem_if_any, operation_call_problem_if_any};
 use crate::lists::{
-    comprehension_type_problem, first_ill_typed_list_item_problem, fold_type_problem,
+    first_ill_typed_clause_problem, first_ill_typed_list_item_problem, fold_type_problem,
     nth_type_problem,
 };
 use crate::operands::{
-    has_references_in_place_of_values, map_wanted_problem, operand_type_problem,
-    sequence_wanted_problem, tuple_wanted_problem, with_only_note, wrong_first_operand_problem,
+    has_references_in_place_of_values, operand_type_mismatch, problem_of_access_to_non_tuple,
+    problem_of_non_map_first_operand, problem_of_non_sequence_operand,
+    problem_of_wrong_first_operand, with_only_note,
 };
-use crate::spelling::type_text_of_kind;
+use crate::spelling::shortened_type_text_of_kind;
 use pst_model::{Expr, Op};
 use pst_sexpr::{Form, word_of};
 use pst_syntax_problems::{
@@ -53,7 +54,7 @@ fn with_known_names_note(blamed: &BlamedPart<'_>, found: Option<Problem>) -> Fou
 }
 
 /// A hint for a name that only callbacks see, or that other languages have.
-fn hint_on_special_name(name: &str) -> Option<&'static str> {
+fn hint_on_callback_or_foreign_name(name: &str) -> Option<&'static str> {
     match name {
         "s" => Some("hint: only callbacks see the state `s`: give it as a parameter"),
         "r" => Some("hint: only next and post see the result `r`"),
@@ -98,7 +99,7 @@ fn operation_name_without_call_problem(blamed: &BlamedPart<'_>, op: &Op) -> Foun
 
 /// The problem of the name `name`, which nothing has here, with a hint if there is one.
 fn unknown_name_problem(blamed: &BlamedPart<'_>, name: &str) -> FoundProblem {
-    if let Some(hint) = hint_on_special_name(name) {
+    if let Some(hint) = hint_on_callback_or_foreign_name(name) {
         return unknown_name_problem_with_hint(blamed, name, hint);
     }
     if let Some(op) = find_operation(blamed.context.items, name) {
@@ -111,7 +112,12 @@ fn unknown_name_problem(blamed: &BlamedPart<'_>, name: &str) -> FoundProblem {
 }
 
 /// The problem `found` of a part of the form `head`, with a hint if the part is a text or a list to add.
-fn with_join_hint(alloc: Global, found: Option<Problem>, head: &str, kind: &Kind) -> FoundProblem {
+fn with_hint_if_joining_by_plus(
+    alloc: Global,
+    found: Option<Problem>,
+    head: &str,
+    kind: &Kind,
+) -> FoundProblem {
     match kind.form(alloc)? {
         KindForm::Text | KindForm::List(_) if head == "+" => {
             with_note(alloc, found, "hint: `(++ a b)` joins texts or lists")
@@ -126,14 +132,14 @@ fn first_ill_typed_part_problem(blamed: &BlamedPart<'_>, head: &str, wanted: &Ty
     for (place, kind) in blamed.kinds.iter().enumerate() {
         if !kind.same(blamed.alloc, &wanted)? {
             let part = place.saturating_add(1);
-            let found = operand_type_problem(
+            let found = operand_type_mismatch(
                 blamed,
                 format_args!("`{head}`"),
                 part,
                 &wanted,
                 kind,
             )?;
-            return with_join_hint(blamed.alloc, found, head, kind);
+            return with_hint_if_joining_by_plus(blamed.alloc, found, head, kind);
         }
     }
     Ok(None)
@@ -145,9 +151,9 @@ fn if_type_problem(blamed: &BlamedPart<'_>) -> FoundProblem {
         return Ok(None);
     };
     let truth = Kind::of(blamed.alloc, &Ty::Bool)?;
-    match operand_type_problem(blamed, "the test of `if`", 1, &truth, test)? {
+    match operand_type_mismatch(blamed, "the test of `if`", 1, &truth, test)? {
         Some(found) => Ok(Some(found)),
-        None => operand_type_problem(blamed, "the branches of `if` differ", 3, yes, no),
+        None => operand_type_mismatch(blamed, "the branches of `if` differ", 3, yes, no),
     }
 }
 
@@ -160,9 +166,9 @@ fn order_comparison_type_problem(
 ) -> FoundProblem {
     match first.form(blamed.alloc)? {
         KindForm::Int | KindForm::Text => {
-            operand_type_problem(blamed, format_args!("`{head}`"), 2, first, second)
+            operand_type_mismatch(blamed, format_args!("`{head}`"), 2, first, second)
         }
-        _ => wrong_first_operand_problem(
+        _ => problem_of_wrong_first_operand(
             blamed,
             format_args!("`{head}` compares int or text"),
             first,
@@ -172,7 +178,7 @@ fn order_comparison_type_problem(
 
 /// The problem of a comparison by `=`, if it has one.
 fn equality_type_problem(blamed: &BlamedPart<'_>, first: &Kind, second: &Kind) -> FoundProblem {
-    if let Some(found) = operand_type_problem(
+    if let Some(found) = operand_type_mismatch(
         blamed,
         "`=` compares values of one type",
         2,
@@ -181,10 +187,10 @@ fn equality_type_problem(blamed: &BlamedPart<'_>, first: &Kind, second: &Kind) -
     )? {
         return Ok(Some(found));
     }
-    if !first.holds_ref(blamed.alloc)? {
+    if !first.holds_ref_or_call(blamed.alloc)? {
         return Ok(None);
     }
-    let found = type_text_of_kind(blamed.alloc, first)?;
+    let found = shortened_type_text_of_kind(blamed.alloc, first)?;
     problem_with_note(
         blamed.alloc,
         blamed.path,
@@ -200,19 +206,19 @@ fn same_operator_type_problem(
     second: &Kind,
 ) -> FoundProblem {
     match first.form(blamed.alloc)? {
-        KindForm::Ref(_) => operand_type_problem(
+        KindForm::Ref(_) => operand_type_mismatch(
             blamed,
             "`same` compares references of one type",
             2,
             first,
             second,
         ),
-        _ => wrong_first_operand_problem(blamed, "`same` compares references", first),
+        _ => problem_of_wrong_first_operand(blamed, "`same` compares references", first),
     }
 }
 
 /// The problem of a `deref`, if it has one.
-fn deref_type_problem(blamed: &BlamedPart<'_>) -> FoundProblem {
+fn deref_place_or_type_problem(blamed: &BlamedPart<'_>) -> FoundProblem {
     if !blamed.context.is_post {
         return problem_with_note(
             blamed.alloc,
@@ -222,19 +228,19 @@ fn deref_type_problem(blamed: &BlamedPart<'_>) -> FoundProblem {
         );
     }
     match blamed.kinds.first() {
-        Some(found) => wrong_first_operand_problem(blamed, "`deref` takes a reference", found),
+        Some(found) => problem_of_wrong_first_operand(blamed, "`deref` takes a reference", found),
         None => Ok(None),
     }
 }
 
 /// The problem `refused` of a `++` that adds a list of the kind `added` to a list of the values. Its only note says how the
 /// list is declared.
-fn with_reference_list_hint(
+fn with_only_reference_list_hint(
     blamed: &BlamedPart<'_>,
     refused: Option<Problem>,
     added: &Kind,
 ) -> FoundProblem {
-    let declared = type_text_of_kind(blamed.alloc, added)?;
+    let declared = shortened_type_text_of_kind(blamed.alloc, added)?;
     let hint = format_args!(
         "hint: a result is a reference before post: declare the list as `{declared}`, and `deref` its items in post (docs/language.md, Patterns)"
     );
@@ -249,44 +255,44 @@ fn list_join_type_problem(
     item: &Kind,
     other: &Kind,
 ) -> FoundProblem {
-    let refused = operand_type_problem(blamed, "`++` joins values of one type", 2, list, other)?;
+    let refused = operand_type_mismatch(blamed, "`++` joins values of one type", 2, list, other)?;
     if has_references_in_place_of_values(blamed.alloc, list, other)? {
-        return with_reference_list_hint(blamed, refused, other);
+        return with_only_reference_list_hint(blamed, refused, other);
     }
     if !item.same(blamed.alloc, other)? {
         return Ok(refused);
     }
-    let shown = type_text_of_kind(blamed.alloc, item)?;
+    let shown = shortened_type_text_of_kind(blamed.alloc, item)?;
     let hint = format_args!("hint: a list of one item is `(list {shown} x)`");
     with_note(blamed.alloc, refused, hint)
 }
 
 /// The problem of a `len` or a `++`, if it has one.
-fn sequence_type_problem(blamed: &BlamedPart<'_>, head: &str) -> FoundProblem {
+fn length_or_join_type_problem(blamed: &BlamedPart<'_>, head: &str) -> FoundProblem {
     let Some(first) = blamed.kinds.first() else {
         return Ok(None);
     };
     match (first.form(blamed.alloc)?, blamed.kinds.get(1)) {
         (KindForm::Text, Some(second)) => {
-            operand_type_problem(blamed, "`++` joins values of one type", 2, first, second)
+            operand_type_mismatch(blamed, "`++` joins values of one type", 2, first, second)
         }
         (KindForm::List(item), Some(second)) => list_join_type_problem(
             blamed, first, &item, second,
         ),
-        _ => sequence_wanted_problem(blamed, head, first),
+        _ => problem_of_non_sequence_operand(blamed, head, first),
     }
 }
 
 /// The problem of an `at`, if it has one.
-fn tuple_access_type_problem(blamed: &BlamedPart<'_>) -> FoundProblem {
+fn problem_of_ill_typed_tuple_access(blamed: &BlamedPart<'_>) -> FoundProblem {
     let Some(found) = blamed.kinds.first() else {
         return Ok(None);
     };
     let KindForm::Tuple(items) = found.form(blamed.alloc)? else {
-        return tuple_wanted_problem(blamed, found);
+        return problem_of_access_to_non_tuple(blamed, found);
     };
     let number = items.len();
-    let shown = type_text_of_kind(blamed.alloc, found)?;
+    let shown = shortened_type_text_of_kind(blamed.alloc, found)?;
     let what = format_args!("the tuple has {number} items: {shown}");
     problem_at_part(blamed.alloc, blamed.path, 2, what)
 }
@@ -299,7 +305,7 @@ fn map_key_type_problem(blamed: &BlamedPart<'_>, keys: KeyTy) -> FoundProblem {
     let wanted = Kind::of(blamed.alloc, &key_type(keys))?;
     let word = key_type_word(keys);
     let what = format_args!("the keys of the map are {word}");
-    operand_type_problem(blamed, what, 2, &wanted, found)
+    operand_type_mismatch(blamed, what, 2, &wanted, found)
 }
 
 /// The problem of a key or a value of another type than those of the map, if there is one.
@@ -308,7 +314,7 @@ fn map_entry_type_problem(blamed: &BlamedPart<'_>, keys: KeyTy, value: &Kind) ->
         return Ok(Some(found));
     }
     match blamed.kinds.get(2) {
-        Some(found) => operand_type_problem(blamed, "the values of the map", 3, value, found),
+        Some(found) => operand_type_mismatch(blamed, "the values of the map", 3, value, found),
         None => Ok(None),
     }
 }
@@ -320,12 +326,12 @@ fn map_form_type_problem(blamed: &BlamedPart<'_>, head: &str) -> FoundProblem {
     };
     match map.form(blamed.alloc)? {
         KindForm::Map(keys, value) => map_entry_type_problem(blamed, keys, &value),
-        _ => map_wanted_problem(blamed, head, map),
+        _ => problem_of_non_map_first_operand(blamed, head, map),
     }
 }
 
 /// What is wrong with an operator of two parts, by its head.
-fn binary_operator_type_problem(blamed: &BlamedPart<'_>, head: &str) -> FoundProblem {
+fn comparison_or_nth_type_problem(blamed: &BlamedPart<'_>, head: &str) -> FoundProblem {
     let [first, second] = blamed.kinds else {
         return Ok(None);
     };
@@ -347,9 +353,9 @@ fn is_int_operator(head: &str) -> bool {
 fn operator_type_problem(blamed: &BlamedPart<'_>, head: &str) -> FoundProblem {
     match head {
         "and" | "or" | "not" => first_ill_typed_part_problem(blamed, head, &Ty::Bool),
-        "len" | "++" => sequence_type_problem(blamed, head),
+        "len" | "++" => length_or_join_type_problem(blamed, head),
         _ if is_int_operator(head) => first_ill_typed_part_problem(blamed, head, &Ty::Int),
-        _ => binary_operator_type_problem(blamed, head),
+        _ => comparison_or_nth_type_problem(blamed, head),
     }
 }
 
@@ -357,22 +363,22 @@ fn operator_type_problem(blamed: &BlamedPart<'_>, head: &str) -> FoundProblem {
 fn expression_form_type_problem(blamed: &BlamedPart<'_>, head: &str) -> FoundProblem {
     match head {
         "if" => if_type_problem(blamed),
-        "deref" => deref_type_problem(blamed),
-        "at" => tuple_access_type_problem(blamed),
+        "deref" => deref_place_or_type_problem(blamed),
+        "at" => problem_of_ill_typed_tuple_access(blamed),
         "list" => first_ill_typed_list_item_problem(blamed),
-        "for" => comprehension_type_problem(blamed),
+        "for" => first_ill_typed_clause_problem(blamed),
         "fold" => fold_type_problem(blamed),
-        "call" => operation_call_type_problem(blamed),
+        "call" => operation_call_problem_if_any(blamed),
         _ if blamed.has_maps && is_head_of_map_form(head) => map_form_type_problem(blamed, head),
         _ => operator_type_problem(blamed, head),
     }
 }
 
 /// What is wrong with a form of expressions, or else with the application of a function, by the head.
-fn type_problem_by_head(blamed: &BlamedPart<'_>, head: &str) -> FoundProblem {
+fn form_or_application_problem_by_head(blamed: &BlamedPart<'_>, head: &str) -> FoundProblem {
     match expression_form_type_problem(blamed, head)? {
         Some(found) => Ok(Some(found)),
-        None => function_application_type_problem(blamed, head),
+        None => function_application_problem_if_any(blamed, head),
     }
 }
 
@@ -381,7 +387,7 @@ pub fn diagnose_blamed_part(blamed: &BlamedPart<'_>) -> FoundProblem {
     if let Some(word) = word_of(blamed.form) {
         return unknown_name_problem(blamed, word.as_str());
     }
-    match type_problem_by_head(blamed, head_word_or_empty(blamed.form))? {
+    match form_or_application_problem_by_head(blamed, head_word_or_empty(blamed.form))? {
         Some(found) => Ok(Some(found)),
         None => problem_at(blamed.alloc, blamed.path, "this has no type"),
     }

@@ -1,9 +1,10 @@
 //! Parts of another type than their form takes.
 
 use crate::diagnose::BlamedPart;
-use crate::spelling::{type_text_of_kind, type_text_without_references};
+use crate::spelling::{shortened_type_text_of_kind, shortened_type_text_without_references};
 use pst_syntax_problems::{
     FoundProblem, Problem, path_to_part, problem_at, problem_at_part, problem_with_note, with_note,
+    with_note_instead_of_others,
 };
 use pst_typing::{Kind, KindForm};
 use std::alloc::{AllocError, Global};
@@ -19,33 +20,30 @@ pub fn has_references_in_place_of_values(
     wanted: &Kind,
     found: &Kind,
 ) -> Result<bool, AllocError> {
-    let wants = type_text_without_references(alloc, wanted)?;
-    let has = type_text_without_references(alloc, found)?;
+    let wants = shortened_type_text_without_references(alloc, wanted)?;
+    let has = shortened_type_text_without_references(alloc, found)?;
     if wants.as_str() != has.as_str() {
         return Ok(false);
     }
-    let wants = type_text_of_kind(alloc, wanted)?;
-    let has = type_text_of_kind(alloc, found)?;
+    let wants = shortened_type_text_of_kind(alloc, wanted)?;
+    let has = shortened_type_text_of_kind(alloc, found)?;
     Ok(has.len() > wants.len())
 }
 
-/// The problem `refused` with the note `note` in the place of its notes.
+/// The problem `refused`, if there is one, with `note` in place of its notes.
 pub fn with_only_note<N: Display + Drop>(
     alloc: Global,
     refused: Option<Problem>,
     note: N,
 ) -> FoundProblem {
     match refused {
-        Some(mut problem) => {
-            problem.notes.clear();
-            Ok(Some(problem.with(alloc, note)?))
-        }
+        Some(problem) => Ok(Some(with_note_instead_of_others(alloc, problem, note)?)),
         None => Ok(None),
     }
 }
 
 /// The problem `refused`, with a hint if references are in the place of their values.
-pub fn with_hint_on_references_for_values(
+pub fn with_hint_if_references_for_values(
     alloc: Global,
     refused: Option<Problem>,
     wanted: &Kind,
@@ -70,7 +68,7 @@ pub fn with_hint_if_reference(
 }
 
 /// The problem `refused`, with a hint if a map is in the place of a list.
-fn with_map_keys_hint(alloc: Global, refused: Option<Problem>, found: &Kind) -> FoundProblem {
+fn with_keys_hint_if_map(alloc: Global, refused: Option<Problem>, found: &Kind) -> FoundProblem {
     match found.form(alloc)? {
         KindForm::Map(_, _) => with_note(
             alloc,
@@ -83,7 +81,7 @@ fn with_map_keys_hint(alloc: Global, refused: Option<Problem>, found: &Kind) -> 
 
 /// The problem `refused` of a form that takes an item out of another type than `found`, with a hint how an item is
 /// taken out of that.
-pub fn with_item_access_hint(
+pub fn with_item_access_hint_if_container(
     alloc: Global,
     refused: Option<Problem>,
     found: &Kind,
@@ -98,25 +96,25 @@ pub fn with_item_access_hint(
 }
 
 /// The problem of the expression at `path`, which has the type `found` instead of `wanted`.
-pub fn type_mismatch_problem<D: Display + Drop>(
+pub fn problem_of_type_mismatch<D: Display + Drop>(
     alloc: Global,
     path: &[usize],
     what: D,
     wanted: &Kind,
     found: &Kind,
 ) -> FoundProblem {
-    let wants = type_text_of_kind(alloc, wanted)?;
-    let has = type_text_of_kind(alloc, found)?;
+    let wants = shortened_type_text_of_kind(alloc, wanted)?;
+    let has = shortened_type_text_of_kind(alloc, found)?;
     let refused = problem_at(
         alloc,
         path,
         format_args!("{what}: expected {wants}, found {has}"),
     )?;
-    with_hint_on_references_for_values(alloc, refused, wanted, found)
+    with_hint_if_references_for_values(alloc, refused, wanted, found)
 }
 
 /// The problem of part `part` of a tree, if its type `found` is another than `wanted`.
-pub fn operand_type_problem<D: Display + Drop>(
+pub fn operand_type_mismatch<D: Display + Drop>(
     blamed: &BlamedPart<'_>,
     what: D,
     part: usize,
@@ -127,16 +125,16 @@ pub fn operand_type_problem<D: Display + Drop>(
         return Ok(None);
     }
     let path = path_to_part(blamed.path, blamed.alloc, part)?;
-    type_mismatch_problem(blamed.alloc, path.as_slice(), what, wanted, found)
+    problem_of_type_mismatch(blamed.alloc, path.as_slice(), what, wanted, found)
 }
 
 /// The problem of the first part, which has another kind than its form takes.
-pub fn wrong_first_operand_problem<D: Display + Drop>(
+pub fn problem_of_wrong_first_operand<D: Display + Drop>(
     blamed: &BlamedPart<'_>,
     what: D,
     found: &Kind,
 ) -> FoundProblem {
-    let has = type_text_of_kind(blamed.alloc, found)?;
+    let has = shortened_type_text_of_kind(blamed.alloc, found)?;
     let refused = problem_at_part(
         blamed.alloc,
         blamed.path,
@@ -147,30 +145,34 @@ pub fn wrong_first_operand_problem<D: Display + Drop>(
 }
 
 /// The problem of the first part of `at`, which is no tuple.
-pub fn tuple_wanted_problem(blamed: &BlamedPart<'_>, found: &Kind) -> FoundProblem {
-    let refused = wrong_first_operand_problem(blamed, "`at` takes a tuple", found)?;
-    with_item_access_hint(blamed.alloc, refused, found)
+pub fn problem_of_access_to_non_tuple(blamed: &BlamedPart<'_>, found: &Kind) -> FoundProblem {
+    let refused = problem_of_wrong_first_operand(blamed, "`at` takes a tuple", found)?;
+    with_item_access_hint_if_container(blamed.alloc, refused, found)
 }
 
 /// The problem of a form that takes a text or a list, and whose first part is neither.
-pub fn sequence_wanted_problem(blamed: &BlamedPart<'_>, head: &str, found: &Kind) -> FoundProblem {
-    let refused = wrong_first_operand_problem(
+pub fn problem_of_non_sequence_operand(
+    blamed: &BlamedPart<'_>,
+    head: &str,
+    found: &Kind,
+) -> FoundProblem {
+    let refused = problem_of_wrong_first_operand(
         blamed,
         format_args!("`{head}` takes a text or a list"),
         found,
     )?;
-    with_map_keys_hint(blamed.alloc, refused, found)
+    with_keys_hint_if_map(blamed.alloc, refused, found)
 }
 
 /// The problem of part `part` of the tree that `path` leads to, which is no list.
-pub fn list_wanted_problem(
+pub fn problem_of_non_list_part(
     alloc: Global,
     path: &[usize],
     what: &str,
     part: usize,
     found: &Kind,
 ) -> FoundProblem {
-    let has = type_text_of_kind(alloc, found)?;
+    let has = shortened_type_text_of_kind(alloc, found)?;
     let refused = problem_at_part(
         alloc,
         path,
@@ -178,7 +180,7 @@ pub fn list_wanted_problem(
         format_args!("{what}: expected a list, found {has}"),
     )?;
     let refused = with_hint_if_reference(alloc, refused, found)?;
-    with_map_keys_hint(alloc, refused, found)
+    with_keys_hint_if_map(alloc, refused, found)
 }
 
 /// Whether the second part is a map.
@@ -190,23 +192,27 @@ fn is_second_operand_map(blamed: &BlamedPart<'_>) -> Result<bool, AllocError> {
 }
 
 /// The problem of a form of maps whose first part and second part are no maps.
-fn missing_map_problem(blamed: &BlamedPart<'_>, head: &str, found: &Kind) -> FoundProblem {
+fn problem_of_no_map_among_operands(
+    blamed: &BlamedPart<'_>,
+    head: &str,
+    found: &Kind,
+) -> FoundProblem {
     let what = format_args!("`{head}`: expected a map");
-    let refused = wrong_first_operand_problem(blamed, what, found)?;
+    let refused = problem_of_wrong_first_operand(blamed, what, found)?;
     if head == "get" {
-        with_item_access_hint(blamed.alloc, refused, found)
+        with_item_access_hint_if_container(blamed.alloc, refused, found)
     } else {
         Ok(refused)
     }
 }
 
 /// The problem of a form of maps whose second part is a map, and whose first part is not.
-fn map_not_first_operand_problem(
+fn problem_of_map_as_second_operand(
     blamed: &BlamedPart<'_>,
     head: &str,
     found: &Kind,
 ) -> FoundProblem {
-    let found = type_text_of_kind(blamed.alloc, found)?;
+    let found = shortened_type_text_of_kind(blamed.alloc, found)?;
     problem_with_note(
         blamed.alloc,
         blamed.path,
@@ -216,10 +222,14 @@ fn map_not_first_operand_problem(
 }
 
 /// The problem of a form of maps whose first part is no map.
-pub fn map_wanted_problem(blamed: &BlamedPart<'_>, head: &str, found: &Kind) -> FoundProblem {
+pub fn problem_of_non_map_first_operand(
+    blamed: &BlamedPart<'_>,
+    head: &str,
+    found: &Kind,
+) -> FoundProblem {
     if is_second_operand_map(blamed)? {
-        map_not_first_operand_problem(blamed, head, found)
+        problem_of_map_as_second_operand(blamed, head, found)
     } else {
-        missing_map_problem(blamed, head, found)
+        problem_of_no_map_among_operands(blamed, head, found)
     }
 }

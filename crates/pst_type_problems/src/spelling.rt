@@ -20,24 +20,27 @@ enum ReferenceSpelling {
 }
 
 /// The spelling of a type.
-pub fn type_text_of_kind(alloc: Global, kind: &Kind) -> Result<String, AllocError> {
+pub fn shortened_type_text_of_kind(alloc: Global, kind: &Kind) -> Result<String, AllocError> {
     let mut text = String::new(alloc);
     let mut left = MOST_FORMS;
-    push_type_text(&mut text, alloc, kind, ReferenceSpelling::Whole, &mut left)?;
+    push_type_text_within_limit(&mut text, alloc, kind, ReferenceSpelling::Whole, &mut left)?;
     Ok(text)
 }
 
 /// A type, as it is written with the type of its value in the place of each reference.
-pub fn type_text_without_references(alloc: Global, kind: &Kind) -> Result<String, AllocError> {
+pub fn shortened_type_text_without_references(
+    alloc: Global,
+    kind: &Kind,
+) -> Result<String, AllocError> {
     let mut text = String::new(alloc);
     let mut left = MOST_FORMS;
-    push_type_text(&mut text, alloc, kind, ReferenceSpelling::Values, &mut left)?;
+    push_type_text_within_limit(&mut text, alloc, kind, ReferenceSpelling::Values, &mut left)?;
     Ok(text)
 }
 
 /// Adds a type, and subtracts the number of its forms from `left`.
-#[cycle(push_type_text)]
-fn push_type_text(
+#[cycle(push_type_text_within_limit)]
+fn push_type_text_within_limit(
     text: &mut String,
     alloc: Global,
     kind: &Kind,
@@ -62,26 +65,28 @@ fn push_type_text(
             references,
             left,
         ),
-        KindForm::List(item) => push_last_type_part_text(
+        KindForm::List(item) => push_last_type_part_and_bracket(
             text, alloc, "(list ", &item, references, left,
         ),
         KindForm::Ref(named) => match references {
-            ReferenceSpelling::Whole => push_last_type_part_text(
+            ReferenceSpelling::Whole => push_last_type_part_and_bracket(
                 text, alloc, "(ref ", &named, references, left,
             ),
-            ReferenceSpelling::Values => push_type_text(text, alloc, &named, references, left),
+            ReferenceSpelling::Values => push_type_text_within_limit(
+                text, alloc, &named, references, left,
+            ),
         },
         KindForm::Map(keys, value) => {
             text.push_str("(map ")?;
             text.push_str(key_type_word(keys))?;
-            push_last_type_part_text(text, alloc, " ", &value, references, left)
+            push_last_type_part_and_bracket(text, alloc, " ", &value, references, left)
         }
     }
 }
 
 /// Adds `start`, the last part of a type, and a closing bracket.
-#[cycle(push_type_text)]
-fn push_last_type_part_text(
+#[cycle(push_type_text_within_limit)]
+fn push_last_type_part_and_bracket(
     text: &mut String,
     alloc: Global,
     start: &str,
@@ -92,12 +97,12 @@ fn push_last_type_part_text(
     ensures { left.new ≤ left.old }
 {
     text.push_str(start)?;
-    push_type_text(text, alloc, kind, references, left)?;
+    push_type_text_within_limit(text, alloc, kind, references, left)?;
     text.push_str(")")
 }
 
 /// Adds the type of tuples with items of `kinds`.
-#[cycle(push_type_text)]
+#[cycle(push_type_text_within_limit)]
 fn push_tuple_type_text(
     text: &mut String,
     alloc: Global,
@@ -113,7 +118,7 @@ fn push_tuple_type_text(
             return text.push_str(" ..)");
         }
         text.push_str(" ")?;
-        push_type_text(text, alloc, kind, references, left)?;
+        push_type_text_within_limit(text, alloc, kind, references, left)?;
     }
     text.push_str(")")
 }

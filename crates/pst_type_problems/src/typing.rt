@@ -1,16 +1,16 @@
 //! Models that are not well typed.
 
 use crate::diagnose::{BlamedPart, diagnose_blamed_part};
-use crate::operands::type_mismatch_problem;
-use crate::trees::{enter_expression_part, find_callback_body, tree_part_or_whole};
-use crate::walk::{expression_part_at_path_with_names, scope_names};
-use pst_model::{Expr, Fun, Item, Op, Source, state_of};
+use crate::operands::problem_of_type_mismatch;
+use crate::trees::{enter_expression_part, find_callback_number_and_body, tree_part_or_whole};
+use crate::walk::{expression_part_at_path_adding_names, scope_names};
+use pst_model::{Expr, Fun, Item, Op, Source, find_state_type};
 use pst_sexpr::Form;
 use pst_syntax_problems::{
     FoundProblem, MOST_PROBLEMS, Problem, head_word_or_empty, problem_at, problem_with_note,
     push_problem_if_any, with_note,
 };
-use pst_typing::{Blame, Context, Found, Kind, Scope, holds_call, holds_ref, infer};
+use pst_typing::{Blame, Context, Found, Kind, Scope, holds_call, holds_ref_or_call, infer};
 use pst_value::Ty;
 use std::alloc::{AllocError, Global};
 
@@ -64,7 +64,12 @@ fn type_problem_of_blame(
     let mut path = Vec::from_slice(alloc, site.path)?;
     let form = enter_expression_part_at_path(&mut path, site.form, blame.path.as_slice())?;
     let mut names = scope_names(alloc, scope)?;
-    let expr = expression_part_at_path_with_names(alloc, &mut names, expr, blame.path.as_slice())?;
+    let expr = expression_part_at_path_adding_names(
+        alloc,
+        &mut names,
+        expr,
+        blame.path.as_slice(),
+    )?;
     let blamed = BlamedPart {
         alloc,
         context,
@@ -88,7 +93,7 @@ fn problem_if_expression_type_differs(
     if found.same(alloc, site.wanted)? {
         return Ok(None);
     }
-    let refused = type_mismatch_problem(alloc, site.path, site.called, site.wanted, found)?;
+    let refused = problem_of_type_mismatch(alloc, site.path, site.called, site.wanted, found)?;
     if site.called == "next" && head_word_or_empty(site.form) == "=" {
         return with_note(
             alloc,
@@ -144,7 +149,7 @@ fn add_callback_type_problems(
     here: ItemSite<'_>,
 ) -> Result<(), AllocError> {
     let context = context_with_all_items(here, word == "post");
-    let Some((place, body)) = find_callback_body(here.form, word) else {
+    let Some((place, body)) = find_callback_number_and_body(here.form, word) else {
         return Ok(());
     };
     let site = ExpressionSite {
@@ -205,7 +210,7 @@ fn operation_signature_type_problem(op: &Op, here: ItemSite<'_>) -> FoundProblem
             return problem_at(alloc, &[0, number, 2, place, 1], what);
         }
     }
-    if !holds_ref(&op.result) {
+    if !holds_ref_or_call(&op.result) {
         return Ok(None);
     }
     problem_with_note(
@@ -326,7 +331,7 @@ fn add_item_type_problems(
 }
 
 /// Adds the problem that item `number` in the tree of the model is not well typed, if there are no others.
-fn add_item_problem_if_none(
+fn add_ill_typed_item_problem_if_none(
     problems: &mut Vec<Problem>,
     alloc: Global,
     number: usize,
@@ -363,7 +368,7 @@ fn add_type_problems_from_item_on(
             add_item_type_problems(problems, item, here)?;
         }
         if is_first {
-            add_item_problem_if_none(problems, alloc, place)?;
+            add_ill_typed_item_problem_if_none(problems, alloc, place)?;
         }
     }
     Ok(())
@@ -380,7 +385,7 @@ pub fn type_problems_from_item_on(
     number: usize,
 ) -> Result<Vec<Problem>, AllocError> {
     let mut problems = Vec::new(alloc);
-    if let Some(state) = state_of(source.items.as_slice()) {
+    if let Some(state) = find_state_type(source.items.as_slice()) {
         let state = Kind::of(alloc, state)?;
         add_type_problems_from_item_on(&mut problems, alloc, source, &state, model, number)?;
     }

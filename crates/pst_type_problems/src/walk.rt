@@ -34,7 +34,7 @@ fn expression_part_or_whole<'a>(whole: &'a Expr, exprs: &'a Items<Expr>, part: u
 }
 
 /// Part `part` of a comprehension. Adds the names that the part sees.
-fn comprehension_part_with_names<'a>(
+fn comprehension_part_adding_names<'a>(
     alloc: Global,
     names: &mut Items<Text>,
     clauses: &'a [Clause],
@@ -60,7 +60,12 @@ fn comprehension_part_with_names<'a>(
 }
 
 /// Part `part` of three, counted from 0. The third has each greater number.
-fn part_of_three<'a>(part: usize, first: &'a Expr, second: &'a Expr, third: &'a Expr) -> &'a Expr {
+fn expression_part_or_last_of_three<'a>(
+    part: usize,
+    first: &'a Expr,
+    second: &'a Expr,
+    third: &'a Expr,
+) -> &'a Expr {
     match part {
         0 => first,
         1 => second,
@@ -69,18 +74,18 @@ fn part_of_three<'a>(part: usize, first: &'a Expr, second: &'a Expr, third: &'a 
 }
 
 /// Part `part` of two, counted from 0. The second has each greater number.
-fn part_of_two<'a>(part: usize, first: &'a Expr, second: &'a Expr) -> &'a Expr {
+fn expression_part_or_last_of_two<'a>(part: usize, first: &'a Expr, second: &'a Expr) -> &'a Expr {
     if part == 0 { first } else { second }
 }
 
 /// Part `part` of an expression whose parts see no further names.
-fn part_of_nonbinding_expression(expr: &Expr, part: usize) -> &Expr {
+fn nonbinding_expression_part_or_whole(expr: &Expr, part: usize) -> &Expr {
     match expr {
         Expr::If(first, second, third) | Expr::Put(first, second, third) => {
-            part_of_three(part, first.get(), second.get(), third.get())
+            expression_part_or_last_of_three(part, first.get(), second.get(), third.get())
         }
         Expr::And(first, second) | Expr::Or(first, second) | Expr::Binary(_, first, second) => {
-            part_of_two(part, first.get(), second.get())
+            expression_part_or_last_of_two(part, first.get(), second.get())
         }
         Expr::Unary(_, operand) | Expr::At(operand, _) => operand.get(),
         Expr::Tuple(exprs) | Expr::List(_, exprs) | Expr::Call(_, exprs) | Expr::Apply(_, exprs) =>
@@ -90,7 +95,7 @@ fn part_of_nonbinding_expression(expr: &Expr, part: usize) -> &Expr {
 }
 
 /// Part `part` of an expression. Adds the names that the part sees.
-fn expression_part_with_names<'a>(
+fn expression_part_adding_names<'a>(
     alloc: Global,
     names: &mut Items<Text>,
     expr: &'a Expr,
@@ -110,14 +115,14 @@ fn expression_part_with_names<'a>(
             Ok(body.get())
         }
         (Expr::For(clauses, body), _) => {
-            comprehension_part_with_names(alloc, names, clauses.as_slice(), body.get(), part)
+            comprehension_part_adding_names(alloc, names, clauses.as_slice(), body.get(), part)
         }
-        _ => Ok(part_of_nonbinding_expression(expr, part)),
+        _ => Ok(nonbinding_expression_part_or_whole(expr, part)),
     }
 }
 
 /// The part of an expression that `path` leads to. Adds the names that the part sees.
-pub fn expression_part_at_path_with_names<'a>(
+pub fn expression_part_at_path_adding_names<'a>(
     alloc: Global,
     names: &mut Items<Text>,
     expr: &'a Expr,
@@ -125,7 +130,7 @@ pub fn expression_part_at_path_with_names<'a>(
 ) -> Result<&'a Expr, AllocError> {
     let mut here = expr;
     for part in path {
-        here = expression_part_with_names(alloc, names, here, *part)?;
+        here = expression_part_adding_names(alloc, names, here, *part)?;
     }
     Ok(here)
 }

@@ -1,7 +1,7 @@
--- `holds_ref` and `holds_call` at each form of a type.
+-- `holds_ref_or_call` and `holds_call` at each form of a type.
 use Rattle.std.proofs.Common.{◌≡◌, ℕ, zero, suc, ◌<◌, length, get_or, arith, Bool, true, false, ◌||◌, List, [], ◌∷◌, map, refl, sym, ap, ◌∙◌}
 use Rattle.std.specs.List.{list_any}
-use Rattle.pst_model.specs.Kinds.{holds_ref, holds_ref_at, holds_call, holds_call_at}
+use Rattle.pst_model.specs.Kinds.{holds_ref_or_call, holds_ref_at, holds_call, holds_call_at}
 use Rattle.pst_model.specs.Parts.{types_of}
 use Rattle.pst_model.specs.declared.model.Param.{Param}
 use Rattle.pst_value.proofs.Holding.{list_any-map}
@@ -35,37 +35,37 @@ module _ (A : Type 0) (step : Ty-F A → A) where
   fold-Call : fold-Ty A step Call ≡ step Ty-F.Call
   fold-Call = ap (fold-Ty A step) (sym rolls-Call) ∙ fold-roll-Ty A step Ty-F.Call
 
-pub holds_ref-Int : holds_ref Int ≡ false
-unfolding holds_ref
-holds_ref-Int = fold-Int Bool holds_ref_at
+pub holds_ref_or_call-Int : holds_ref_or_call Int ≡ false
+unfolding holds_ref_or_call
+holds_ref_or_call-Int = fold-Int Bool holds_ref_at
 
-pub holds_ref-Truth : holds_ref Truth ≡ false
-unfolding holds_ref
-holds_ref-Truth = fold-Truth Bool holds_ref_at
+pub holds_ref_or_call-Truth : holds_ref_or_call Truth ≡ false
+unfolding holds_ref_or_call
+holds_ref_or_call-Truth = fold-Truth Bool holds_ref_at
 
-pub holds_ref-Text : holds_ref Text ≡ false
-unfolding holds_ref
-holds_ref-Text = fold-Text Bool holds_ref_at
+pub holds_ref_or_call-Text : holds_ref_or_call Text ≡ false
+unfolding holds_ref_or_call
+holds_ref_or_call-Text = fold-Text Bool holds_ref_at
 
-pub holds_ref-Tuple : (ts : List Ty) → holds_ref (Tuple ts) ≡ list_any holds_ref ts
-unfolding holds_ref
-holds_ref-Tuple ts = fold-Tuple Bool holds_ref_at ts ∙ list_any-map holds_ref ts
+pub holds_ref_or_call-Tuple : (ts : List Ty) → holds_ref_or_call (Tuple ts) ≡ list_any holds_ref_or_call ts
+unfolding holds_ref_or_call
+holds_ref_or_call-Tuple ts = fold-Tuple Bool holds_ref_at ts ∙ list_any-map holds_ref_or_call ts
 
-pub holds_ref-ListOf : (t : Ty) → holds_ref (ListOf t) ≡ holds_ref t
-unfolding holds_ref
-holds_ref-ListOf t = fold-ListOf Bool holds_ref_at t
+pub holds_ref_or_call-ListOf : (t : Ty) → holds_ref_or_call (ListOf t) ≡ holds_ref_or_call t
+unfolding holds_ref_or_call
+holds_ref_or_call-ListOf t = fold-ListOf Bool holds_ref_at t
 
-pub holds_ref-MapOf : (k : KeyTy) (t : Ty) → holds_ref (MapOf k t) ≡ holds_ref t
-unfolding holds_ref
-holds_ref-MapOf k t = fold-MapOf Bool holds_ref_at k t
+pub holds_ref_or_call-MapOf : (k : KeyTy) (t : Ty) → holds_ref_or_call (MapOf k t) ≡ holds_ref_or_call t
+unfolding holds_ref_or_call
+holds_ref_or_call-MapOf k t = fold-MapOf Bool holds_ref_at k t
 
-pub holds_ref-Ref : (t : Ty) → holds_ref (Ref t) ≡ true
-unfolding holds_ref
-holds_ref-Ref t = fold-Ref Bool holds_ref_at t
+pub holds_ref_or_call-Ref : (t : Ty) → holds_ref_or_call (Ref t) ≡ true
+unfolding holds_ref_or_call
+holds_ref_or_call-Ref t = fold-Ref Bool holds_ref_at t
 
-pub holds_ref-Call : holds_ref Call ≡ true
-unfolding holds_ref
-holds_ref-Call = fold-Call Bool holds_ref_at
+pub holds_ref_or_call-Call : holds_ref_or_call Call ≡ true
+unfolding holds_ref_or_call
+holds_ref_or_call-Call = fold-Call Bool holds_ref_at
 
 pub holds_call-Int : holds_call Int ≡ false
 unfolding holds_call
@@ -99,7 +99,7 @@ pub holds_call-Call : holds_call Call ≡ true
 unfolding holds_call
 holds_call-Call = fold-Call Bool holds_call_at
 
-pub ruleset refs = (holds_ref-Int, holds_ref-Truth, holds_ref-Text, holds_ref-Tuple, holds_ref-ListOf, holds_ref-MapOf, holds_ref-Ref, holds_ref-Call)
+pub ruleset refs = (holds_ref_or_call-Int, holds_ref_or_call-Truth, holds_ref_or_call-Text, holds_ref_or_call-Tuple, holds_ref_or_call-ListOf, holds_ref_or_call-MapOf, holds_ref_or_call-Ref, holds_ref_or_call-Call)
 
 pub ruleset calls = (holds_call-Int, holds_call-Truth, holds_call-Text, holds_call-Tuple, holds_call-ListOf, holds_call-MapOf, holds_call-Ref, holds_call-Call)
 

@@ -1,6 +1,6 @@
 -- The type that the rules give an expression, if there is one, form by form.
 use Rattle.std.specs.Prelude.{◌&&◌, ◌||◌, not, ℕ, ◌^◌, nat_lt, nat_le, Bool, true, false, if◌then◌else◌, List, [], ◌∷◌, length, Option, Some, None}
-use Rattle.pst_model.specs.Kinds.{holds_ref}
+use Rattle.pst_model.specs.Kinds.{holds_ref_or_call}
 use Rattle.pst_model.specs.Parts.{Name, operation_number, operation_of, types_of}
 use Rattle.pst_model.specs.Rules.{Context, type_named, signature, key_type}
 use Rattle.pst_model.specs.declared.expr.Binary.{Binary}
@@ -104,7 +104,7 @@ are_ordered R S = same_ty R S && (same_ty R ty.Int || same_ty R ty.Text)
 
 -- whether `=` compares them: in mode post any type, else one without references and calls
 abbrev pub are_compared : (post : Bool) → Ty → Ty → Bool
-are_compared post R S = same_ty R S && (post || not (holds_ref R))
+are_compared post R S = same_ty R S && (post || not (holds_ref_or_call R))
 
 abbrev pub unary_type : (post : Bool) → Unary → Ty → Option Ty
 unary_type post Not S = where_true (same_ty S ty.Bool) (Some ty.Bool)

@@ -6,7 +6,7 @@ use Rattle.pst_model.specs.declared.expr.Expr.{Expr}
 use Rattle.pst_model.specs.declared.model.Item.{Item}
 use Rattle.pst_model.specs.declared.model.Item.TheVariants as item
 use Rattle.pst_model.specs.declared.model.Op.{Op}
-use Rattle.pst_model.specs.Kinds.{holds_ref, holds_call}
+use Rattle.pst_model.specs.Kinds.{holds_ref_or_call, holds_call}
 use Rattle.pst_model.specs.Rules.{Context, context_of}
 use Rattle.pst_model.specs.WellTyped.{name_s, all_of, pre_context, next_context, post_context}
 use Rattle.pst_typing.specs.Decision.{type_of}
@@ -21,7 +21,7 @@ has_type items post G e T = is_ty (type_of items (all_of items) post e G) T
 abbrev pub well_operation : (items : List Item) (S : Ty) → Op → Bool
 well_operation items S o =
     not (list_any holds_call (types_of o.params))
-    && (not (holds_ref o.result)
+    && (not (holds_ref_or_call o.result)
     && (has_type items false (pre_context S o) o.pre ty.Bool
     && (has_type items false (next_context S o) o.next S
     && has_type items true (post_context S o) o.post ty.Bool)))

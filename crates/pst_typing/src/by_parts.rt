@@ -12,17 +12,17 @@ use crate::blame::{Blame, Found};
 use crate::context::Context;
 use crate::kinds::Kind;
 use crate::operators::{
-    binary_type, copy_kind, int_type, kind_if, kind_of, kind_of_map_keys, kind_of_type_if_true,
-    part_type, text_type, unary_type, values_type,
+    binary_type, copy_kind_if_true, copy_kind_or_refuse, int_type, kind_of, kind_of_map_keys,
+    kind_of_type_if_true, part_type, text_type_if_lawful, unary_type, values_type,
 };
 use crate::refusal::Refusal;
-use crate::scope::{Names, function_called, kind_of_variable, operation_called};
+use crate::scope::{Names, kind_of_variable, last_function_of_name, operation_called};
 use pst_model::{Binary, Clause, Expr, Param, Unary};
 use pst_value::{Items, KeyTy, LIMIT, Ty};
 use std::alloc::{AllocError, Global};
 
 /// The kind of an expression by the kinds of its parts. If it has none, it is to blame itself.
-pub fn kind_by_parts(
+pub fn kind_or_blame_by_parts(
     expr: &Expr,
     context: &Context<'_>,
     names: &Names<'_>,
@@ -30,7 +30,7 @@ pub fn kind_by_parts(
 ) -> Result<Found, AllocError>
     ensures { IfOk result (λ found. IsJudged (spec.by_parts context.now (names_in names.now) expr.now kinds) kinds found) }
 {
-    match kind_of_whole(expr, context, names, kinds.as_slice()) {
+    match kind_from_kinds_of_parts(expr, context, names, kinds.as_slice()) {
         Ok(kind) => Ok(Found::Kind(kind)),
         Err(Refusal::Ill) => {
             let path = Items::new(context.alloc);
@@ -43,7 +43,7 @@ pub fn kind_by_parts(
 }
 
 /// The kind of an expression by the kinds of its parts.
-fn kind_of_whole(
+fn kind_from_kinds_of_parts(
     expr: &Expr,
     context: &Context<'_>,
     names: &Names<'_>,
@@ -55,16 +55,16 @@ fn kind_of_whole(
     match expr {
         Expr::Int(number) => int_type(alloc, *number),
         Expr::Bool(_) => kind_of(alloc, &Ty::Bool),
-        Expr::Text(text) => text_type(alloc, text.as_bytes()),
+        Expr::Text(text) => text_type_if_lawful(alloc, text.as_bytes()),
         Expr::Name(name) => kind_of_variable(names, name.as_bytes()),
-        Expr::Let(_, _, _) => copy_kind(kinds.get(1)),
+        Expr::Let(_, _, _) => copy_kind_or_refuse(kinds.get(1)),
         Expr::If(_, _, _) => kind_of_if(alloc, kinds),
         Expr::And(_, _) => kind_of_and_or(alloc, kinds),
         Expr::Or(_, _) => kind_of_and_or(alloc, kinds),
         Expr::Unary(operator, _) => kind_of_unary(context, *operator, kinds),
         Expr::Binary(operator, _, _) => kind_of_binary(context, *operator, kinds),
         Expr::Tuple(_) => kind_of_tuple(alloc, kinds),
-        Expr::At(_, place) => kind_of_at(alloc, kinds, *place),
+        Expr::At(_, place) => kind_of_tuple_item(alloc, kinds, *place),
         Expr::List(ty, exprs) => kind_of_list(alloc, ty, exprs.len(), kinds),
         Expr::For(clauses, _) => kind_of_for(alloc, clauses.as_slice(), kinds),
         Expr::Fold(_, _, _, _, _) => kind_of_fold(alloc, kinds),
@@ -85,7 +85,7 @@ fn kind_of_if(alloc: Global, kinds: &[Kind]) -> Result<Kind, Refusal>
     if !test.is(alloc, &Ty::Bool)? {
         return Err(Refusal::Ill);
     }
-    kind_if(no.same(alloc, yes)?, yes)
+    copy_kind_if_true(no.same(alloc, yes)?, yes)
 }
 
 /// `bool`, of two tests.
@@ -129,7 +129,7 @@ fn kind_of_tuple(alloc: Global, kinds: &[Kind]) -> Result<Kind, Refusal>
 }
 
 /// The kind of an item of a tuple.
-fn kind_of_at(alloc: Global, kinds: &[Kind], place: u64) -> Result<Kind, Refusal>
+fn kind_of_tuple_item(alloc: Global, kinds: &[Kind], place: u64) -> Result<Kind, Refusal>
     ensures { Answers (spec.of_at place kinds.now) result }
 {
     let [tuple] = kinds else {
@@ -189,7 +189,7 @@ fn kind_of_fold(alloc: Global, kinds: &[Kind]) -> Result<Kind, Refusal>
     let [_, first, body] = kinds else {
         return Err(Refusal::Ill);
     };
-    kind_if(body.same(alloc, first)?, first)
+    copy_kind_if_true(body.same(alloc, first)?, first)
 }
 
 /// The kind of maps of a type of keys and a type of values.
@@ -211,7 +211,7 @@ fn kind_of_put(alloc: Global, kinds: &[Kind]) -> Result<Kind, Refusal>
         return Err(Refusal::Ill);
     }
     let values = values_type(alloc, map)?;
-    kind_if(value.same(alloc, &values)?, map)
+    copy_kind_if_true(value.same(alloc, &values)?, map)
 }
 
 /// `call`, if the operation `name` takes arguments of these kinds.
@@ -232,7 +232,7 @@ fn kind_of_apply(context: &Context<'_>, name: &[u8], kinds: &[Kind]) -> Result<K
     ensures { Answers
         (spec.of_applied (reverse context.now.earlier.now) context.now.is_post name.now kinds.now) result }
 {
-    let Some(function) = function_called(context.earlier, name) else {
+    let Some(function) = last_function_of_name(context.earlier, name) else {
         return Err(Refusal::Ill);
     };
     if function.is_post && !context.is_post {

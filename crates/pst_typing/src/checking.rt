@@ -6,7 +6,7 @@ ghost use Rattle.pst_typing.specs.Least.{IsWhole, Judged};
 
 use crate::items::first_ill_typed_item_number;
 use crate::type_fault::TypeFault;
-use pst_model::{Source, Typed, state_of};
+use pst_model::{Source, Typed, find_state_type};
 use pst_syntax::Model;
 use pst_syntax::laws::{
     model_item_counts_are_lawful, model_operations_are_lawful, plain_model_types_have_no_maps,
@@ -15,12 +15,15 @@ use std::alloc::{AllocError, Global};
 
 /// The number of the first item that is not well typed.
 #[tactic(auto, using(crate::proofs::Judging::judged))]
-fn first_ill_typed_item(alloc: Global, source: &Source) -> Result<Option<usize>, AllocError>
+fn number_of_first_ill_typed_item(
+    alloc: Global,
+    source: &Source,
+) -> Result<Option<usize>, AllocError>
     requires { IsWhole source.now }
     ensures { IfOk result (λ number. Judged source.now number) }
 {
     let items = source.items.as_slice();
-    match state_of(items) {
+    match find_state_type(items) {
         Some(state) => first_ill_typed_item_number(alloc, items, state),
         None => unreachable!(),
     }
@@ -35,7 +38,7 @@ pub fn check(alloc: Global, model: Model) -> Result<Typed, (Model, TypeFault)>
     model_item_counts_are_lawful();
     model_operations_are_lawful();
     plain_model_types_have_no_maps();
-    match first_ill_typed_item(alloc, model.source()) {
+    match number_of_first_ill_typed_item(alloc, model.source()) {
         Ok(None) => Ok(Typed::new(model.into_source())),
         Ok(Some(number)) => Err((model, TypeFault::Item(number))),
         Err(AllocError) => Err((model, TypeFault::NoMemory)),

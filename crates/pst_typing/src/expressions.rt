@@ -7,10 +7,10 @@ ghost use Rattle.pst_typing.specs.Scope.{names_of, names_in, type_in};
 ghost use Rattle.pst_model.specs.declared.expr.Clause.TheVariants as clause;
 
 use crate::blame::Found;
-use crate::by_parts::kind_by_parts;
+use crate::by_parts::kind_or_blame_by_parts;
 use crate::context::Context;
 use crate::gathered::{Gathered, item_kind_if_list};
-use crate::scope::{Names, Scope, names_seen};
+use crate::scope::{Names, Scope, typed_names_of_scope};
 use pst_model::{Clause, Expr};
 use pst_value::{Boxed, Text};
 use std::alloc::AllocError;
@@ -19,7 +19,7 @@ use std::alloc::AllocError;
 pub fn infer(expr: &Expr, context: &Context<'_>, scope: &Scope<'_>) -> Result<Found, AllocError>
     ensures { IfOk result (λ found. IsFound (type_in context.now) (names_of scope.now) expr.now found) }
 {
-    let seen = names_seen(context.alloc, scope)?;
+    let seen = typed_names_of_scope(context.alloc, scope)?;
     infer_kind(expr, context, &Names::Outer(seen.as_slice()))
 }
 
@@ -28,9 +28,9 @@ pub fn infer(expr: &Expr, context: &Context<'_>, scope: &Scope<'_>) -> Result<Fo
 fn infer_kind(expr: &Expr, context: &Context<'_>, names: &Names<'_>) -> Result<Found, AllocError>
     ensures { IfOk result (λ found. IsFound (type_in context.now) (names_in names.now) expr.now found) }
 {
-    let Gathered { kinds, blames, .. } = infer_parts(expr, context, names)?;
+    let Gathered { kinds, blames, .. } = infer_kinds_of_parts(expr, context, names)?;
     if blames.is_empty() {
-        kind_by_parts(expr, context, names, kinds)
+        kind_or_blame_by_parts(expr, context, names, kinds)
     } else {
         Ok(Found::Blamed(blames))
     }
@@ -38,7 +38,7 @@ fn infer_kind(expr: &Expr, context: &Context<'_>, names: &Names<'_>) -> Result<F
 
 /// What is known of the parts of an expression.
 #[cycle(infer)]
-fn infer_parts(
+fn infer_kinds_of_parts(
     expr: &Expr,
     context: &Context<'_>,
     names: &Names<'_>,
@@ -51,31 +51,31 @@ fn infer_parts(
         Expr::Text(_) => Ok(Gathered::new(context.alloc)),
         Expr::Name(_) => Ok(Gathered::new(context.alloc)),
         Expr::Map(_, _) => Ok(Gathered::new(context.alloc)),
-        Expr::Let(name, bound, body) => infer_let(name, bound, body, context, names),
-        Expr::If(test, yes, no) => infer_three(test, yes, no, context, names),
-        Expr::And(first, second) => infer_two(first, second, context, names),
-        Expr::Or(first, second) => infer_two(first, second, context, names),
-        Expr::Unary(_, operand) => infer_one(operand, context, names),
-        Expr::Binary(_, first, second) => infer_two(first, second, context, names),
-        Expr::Tuple(exprs) => infer_each(exprs.as_slice(), context, names),
-        Expr::At(tuple, _) => infer_one(tuple, context, names),
-        Expr::List(_, exprs) => infer_each(exprs.as_slice(), context, names),
+        Expr::Let(name, bound, body) => infer_let_parts(name, bound, body, context, names),
+        Expr::If(test, yes, no) => infer_three_parts(test, yes, no, context, names),
+        Expr::And(first, second) => infer_two_parts(first, second, context, names),
+        Expr::Or(first, second) => infer_two_parts(first, second, context, names),
+        Expr::Unary(_, operand) => infer_one_part(operand, context, names),
+        Expr::Binary(_, first, second) => infer_two_parts(first, second, context, names),
+        Expr::Tuple(exprs) => infer_each_part(exprs.as_slice(), context, names),
+        Expr::At(tuple, _) => infer_one_part(tuple, context, names),
+        Expr::List(_, exprs) => infer_each_part(exprs.as_slice(), context, names),
         Expr::For(clauses, body) => {
             let none = Gathered::new(context.alloc);
-            infer_clauses(none, clauses.as_slice(), body.get(), context, names)
+            infer_clauses_and_body(none, clauses.as_slice(), body.get(), context, names)
         }
         Expr::Fold(name, list, acc, first, body) => {
-            infer_fold(name, list, acc, first, body, context, names)
+            infer_fold_parts(name, list, acc, first, body, context, names)
         }
-        Expr::Put(map, key, value) => infer_three(map, key, value, context, names),
-        Expr::Call(_, exprs) => infer_each(exprs.as_slice(), context, names),
-        Expr::Apply(_, exprs) => infer_each(exprs.as_slice(), context, names),
+        Expr::Put(map, key, value) => infer_three_parts(map, key, value, context, names),
+        Expr::Call(_, exprs) => infer_each_part(exprs.as_slice(), context, names),
+        Expr::Apply(_, exprs) => infer_each_part(exprs.as_slice(), context, names),
     }
 }
 
 /// A value, and a body that sees it under a name. The body is visited only if the value has a kind.
 #[cycle(infer)]
-fn infer_let(
+fn infer_let_parts(
     name: &Text,
     bound: &Boxed<Expr>,
     body: &Boxed<Expr>,
@@ -89,18 +89,19 @@ fn infer_let(
     let none = Gathered::new(alloc);
     let found = infer_kind(bound.get(), context, names)?;
     match found {
-        Found::Blamed(blames) => none.with(alloc, Found::Blamed(blames)),
+        Found::Blamed(blames) => none.with_found_part(alloc, Found::Blamed(blames)),
         Found::Kind(kind) => {
             let inner = Names::With(name.as_bytes(), &kind, &*names);
             let found = infer_kind(body.get(), context, &inner)?;
-            none.with(alloc, Found::Kind(kind))?.with(alloc, found)
+            none.with_found_part(alloc, Found::Kind(kind))?
+                .with_found_part(alloc, found)
         }
     }
 }
 
 /// One expression.
 #[cycle(infer)]
-fn infer_one(
+fn infer_one_part(
     expr: &Boxed<Expr>,
     context: &Context<'_>,
     names: &Names<'_>,
@@ -109,12 +110,12 @@ fn infer_one(
         (spec.one_part (names_in names.now) expr.now) all) }
 {
     let found = infer_kind(expr.get(), context, names)?;
-    Gathered::new(context.alloc).with(context.alloc, found)
+    Gathered::new(context.alloc).with_found_part(context.alloc, found)
 }
 
 /// Two expressions.
 #[cycle(infer)]
-fn infer_two(
+fn infer_two_parts(
     first: &Boxed<Expr>,
     second: &Boxed<Expr>,
     context: &Context<'_>,
@@ -123,14 +124,14 @@ fn infer_two(
     ensures { IfOk result (λ all. IsGathered (type_in context.now)
         (spec.two_parts (names_in names.now) first.now second.now) all) }
 {
-    let all = infer_one(first, context, names)?;
+    let all = infer_one_part(first, context, names)?;
     let found = infer_kind(second.get(), context, names)?;
-    all.with(context.alloc, found)
+    all.with_found_part(context.alloc, found)
 }
 
 /// Three expressions.
 #[cycle(infer)]
-fn infer_three(
+fn infer_three_parts(
     first: &Boxed<Expr>,
     second: &Boxed<Expr>,
     third: &Boxed<Expr>,
@@ -140,14 +141,14 @@ fn infer_three(
     ensures { IfOk result (λ all. IsGathered (type_in context.now)
         (spec.if_parts (names_in names.now) first.now second.now third.now) all) }
 {
-    let all = infer_two(first, second, context, names)?;
+    let all = infer_two_parts(first, second, context, names)?;
     let found = infer_kind(third.get(), context, names)?;
-    all.with(context.alloc, found)
+    all.with_found_part(context.alloc, found)
 }
 
 /// Expressions that see the same names.
 #[cycle(infer)]
-fn infer_each(
+fn infer_each_part(
     exprs: &[Expr],
     context: &Context<'_>,
     names: &Names<'_>,
@@ -158,7 +159,7 @@ fn infer_each(
     let mut all = Gathered::new(context.alloc);
     for expr in exprs {
         let found = infer_kind(expr, context, names)?;
-        all = all.with(context.alloc, found)?;
+        all = all.with_found_part(context.alloc, found)?;
     }
     Ok(all)
 }
@@ -166,7 +167,7 @@ fn infer_each(
 /// A fold over a list. The body is visited only if what it sees has kinds. The parts of the form are parameters of
 /// their own, since the contract names each.
 #[cycle(infer)]
-fn infer_fold(
+fn infer_fold_parts(
     name: &Text,
     list: &Boxed<Expr>,
     acc: &Text,
@@ -182,18 +183,19 @@ fn infer_fold(
     let alloc = context.alloc;
     let found = infer_kind(list.get(), context, names)?;
     let item = item_kind_if_list(alloc, &found)?;
-    let all = Gathered::new(alloc).with(alloc, found)?;
+    let all = Gathered::new(alloc).with_found_part(alloc, found)?;
     let found = infer_kind(first.get(), context, names)?;
     let Some(item) = item else {
-        return all.with(alloc, found);
+        return all.with_found_part(alloc, found);
     };
     match found {
-        Found::Blamed(blames) => all.with(alloc, Found::Blamed(blames)),
+        Found::Blamed(blames) => all.with_found_part(alloc, Found::Blamed(blames)),
         Found::Kind(kind) => {
             let outer = Names::With(name.as_bytes(), &item, &*names);
             let inner = Names::With(acc.as_bytes(), &kind, &outer);
             let found = infer_kind(body.get(), context, &inner)?;
-            all.with(alloc, Found::Kind(kind))?.with(alloc, found)
+            all.with_found_part(alloc, Found::Kind(kind))?
+                .with_found_part(alloc, found)
         }
     }
 }
@@ -201,7 +203,7 @@ fn infer_fold(
 /// The clauses and the body of a comprehension, after the parts that are known. What follows a clause that takes
 /// items of no list is not visited.
 #[cycle(infer)]
-fn infer_clauses(
+fn infer_clauses_and_body(
     all: Gathered,
     clauses: &[Clause],
     body: &Expr,
@@ -214,16 +216,16 @@ fn infer_clauses(
     match split_first(clauses) {
         None => {
             let found = infer_kind(body, context, names)?;
-            all.with(context.alloc, found)
+            all.with_found_part(context.alloc, found)
         }
         Some((first, rest)) => match first {
             Clause::In(name, list) => {
-                infer_items(all, name.as_bytes(), list, rest, body, context, names)
+                infer_in_clause(all, name.as_bytes(), list, rest, body, context, names)
             }
             Clause::When(test) => {
                 let found = infer_kind(test, context, names)?;
-                let all = all.with(context.alloc, found)?;
-                infer_clauses(all, rest, body, context, names)
+                let all = all.with_found_part(context.alloc, found)?;
+                infer_clauses_and_body(all, rest, body, context, names)
             }
         },
     }
@@ -232,7 +234,7 @@ fn infer_clauses(
 /// A clause that takes the items of a list, and what follows it. The parts of the clause are parameters of their own,
 /// since the contract names each.
 #[cycle(infer)]
-fn infer_items(
+fn infer_in_clause(
     all: Gathered,
     name: &[u8],
     list: &Expr,
@@ -246,11 +248,11 @@ fn infer_items(
 {
     let found = infer_kind(list, context, names)?;
     let item = item_kind_if_list(context.alloc, &found)?;
-    let all = all.with(context.alloc, found)?;
+    let all = all.with_found_part(context.alloc, found)?;
     match item {
         Some(item) => {
             let inner = Names::With(&*name, &item, &*names);
-            infer_clauses(all, rest, body, context, &inner)
+            infer_clauses_and_body(all, rest, body, context, &inner)
         }
         None => Ok(all),
     }

@@ -37,7 +37,7 @@ impl Gathered {
     }
 
     /// One part more is known.
-    pub fn with(self, alloc: Global, found: Found) -> Result<Gathered, AllocError>
+    pub fn with_found_part(self, alloc: Global, found: Found) -> Result<Gathered, AllocError>
         ensures { IfOk result (λ all. all ≡ spec.with_found self found) }
     {
         let Gathered {
@@ -47,7 +47,9 @@ impl Gathered {
         } = self;
         match found {
             Found::Kind(kind) => kinds.push(kind)?,
-            Found::Blamed(more) => blames = with_blames(alloc, blames, number, more)?,
+            Found::Blamed(more) => blames = append_part_blames_up_to_limit(
+                alloc, blames, number, more,
+            )?,
         }
         match number.checked_add(1) {
             Some(number) => Ok(Gathered {
@@ -61,7 +63,7 @@ impl Gathered {
 }
 
 /// The first `MOST_BLAMES` of `blames` and then `more`, which are the blames within part `number`.
-fn with_blames(
+fn append_part_blames_up_to_limit(
     alloc: Global,
     blames: Items<Blame>,
     number: usize,

@@ -11,7 +11,7 @@ use crate::context::Context;
 use crate::expressions::infer;
 use crate::kinds::Kind;
 use crate::scope::Scope;
-use crate::types::{holds_call, holds_ref, parameters_hold_call};
+use crate::types::{holds_call, holds_ref_or_call, parameters_hold_call};
 use pst_model::{Expr, Item, Op};
 use pst_value::Ty;
 use std::alloc::{AllocError, Global};
@@ -106,7 +106,7 @@ fn is_well_typed_operation(
     if parameters_hold_call(op.params.as_slice()) {
         return Ok(false);
     }
-    if holds_ref(&op.result) {
+    if holds_ref_or_call(&op.result) {
         return Ok(false);
     }
     if !is_well_typed_pre(alloc, items, state, op)? {

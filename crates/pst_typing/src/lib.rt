@@ -27,7 +27,9 @@ pub use expressions::infer;
 pub use items::{first_ill_typed_item_number, is_well_typed_item};
 pub use kinds::{Kind, KindForm};
 pub use laws::{
-    first_ill_is_least, ill_is_not_well, ill_typed_item_is_unique, items_are_exact, types_are_exact,
+    first_ill_typed_item_is_unique, ill_typed_item_makes_model_ill_typed,
+    inferred_type_agrees_with_rules, item_check_agrees_with_rules,
+    search_finds_first_ill_typed_item,
 };
 pub use load_refusal::Refusal;
 pub use loading::{ModelFile, load, trees_after_model};
@@ -35,4 +37,4 @@ pub use operators::key_type;
 pub use parts::{model_name, operation_name, operation_parameters, operation_result};
 pub use scope::Scope;
 pub use type_fault::TypeFault;
-pub use types::{holds_call, holds_ref};
+pub use types::{holds_call, holds_ref_or_call};

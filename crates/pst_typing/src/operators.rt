@@ -25,7 +25,7 @@ pub fn kind_of(alloc: Global, ty: &Ty) -> Result<Kind, Refusal>
 }
 
 /// A copy of a kind, if there is one.
-pub fn copy_kind(kind: Option<&Kind>) -> Result<Kind, Refusal>
+pub fn copy_kind_or_refuse(kind: Option<&Kind>) -> Result<Kind, Refusal>
     ensures { Answers (option_copied kind.entry) result }
 {
     match kind {
@@ -46,7 +46,7 @@ pub fn kind_of_type_if_true(alloc: Global, test: bool, ty: &Ty) -> Result<Kind, 
 }
 
 /// A kind, if a test is passed.
-pub fn kind_if(test: bool, kind: &Kind) -> Result<Kind, Refusal>
+pub fn copy_kind_if_true(test: bool, kind: &Kind) -> Result<Kind, Refusal>
     ensures { Answers (spec.where_true test (Some kind.now)) result }
 {
     if test {
@@ -75,7 +75,7 @@ fn is_ref(alloc: Global, kind: &Kind) -> Result<bool, AllocError>
     }
 }
 
-fn both_int(alloc: Global, first: &Kind, second: &Kind) -> Result<bool, AllocError>
+fn are_both_int(alloc: Global, first: &Kind, second: &Kind) -> Result<bool, AllocError>
     ensures { IfOk result (λ are. are ≡ spec.both_int first.now second.now) }
 {
     if !first.is(alloc, &Ty::Int)? {
@@ -112,8 +112,8 @@ fn are_comparable(
     if is_post {
         return Ok(true);
     }
-    let holds_ref = first.holds_ref(alloc)?;
-    Ok(!holds_ref)
+    let holds_ref_or_call = first.holds_ref_or_call(alloc)?;
+    Ok(!holds_ref_or_call)
 }
 
 /// Whether `same` compares them: references of one type.
@@ -127,7 +127,7 @@ fn are_references(alloc: Global, first: &Kind, second: &Kind) -> Result<bool, Al
 }
 
 /// Whether `append` joins them: texts, or lists of one type.
-fn are_joined(alloc: Global, first: &Kind, second: &Kind) -> Result<bool, AllocError>
+fn are_joinable(alloc: Global, first: &Kind, second: &Kind) -> Result<bool, AllocError>
     ensures { IfOk result (λ are. are ≡ same_ty first.now second.now && spec.is_sequence first.now) }
 {
     if !first.same(alloc, second)? {
@@ -208,7 +208,7 @@ pub fn part_type(alloc: Global, tuple: &Kind, place: u64) -> Result<Kind, Refusa
     if place == 0 {
         return Err(Refusal::Ill);
     }
-    copy_kind(kinds.get(place as usize - 1))
+    copy_kind_or_refuse(kinds.get(place as usize - 1))
 }
 
 /// The kind of what `nth` takes out of the first at the second.
@@ -245,9 +245,9 @@ fn keys_list_type(alloc: Global, map: &Kind) -> Result<Kind, Refusal>
 fn range_type(alloc: Global, first: &Kind, second: &Kind) -> Result<Kind, Refusal>
     ensures { Answers (spec.where_true (spec.both_int first.now second.now) (Some (list int))) result }
 {
-    let both = both_int(alloc, first, second)?;
+    let both = are_both_int(alloc, first, second)?;
     let ints = Kind::of(alloc, &Ty::Int)?.list(alloc)?;
-    kind_if(both, &ints)
+    copy_kind_if_true(both, &ints)
 }
 
 /// The kind of an operator's value, by that of its operand.
@@ -284,7 +284,7 @@ pub fn binary_type(
 {
     match operator {
         Binary::Add | Binary::Sub | Binary::Mul | Binary::Div | Binary::Rem => {
-            kind_of_type_if_true(alloc, both_int(alloc, first, second)?, &Ty::Int)
+            kind_of_type_if_true(alloc, are_both_int(alloc, first, second)?, &Ty::Int)
         }
         Binary::Less | Binary::LessEqual => {
             kind_of_type_if_true(alloc, are_orderable(alloc, first, second)?, &Ty::Bool)
@@ -298,7 +298,7 @@ pub fn binary_type(
             are_references(alloc, first, second)?,
             &Ty::Bool,
         ),
-        Binary::Append => kind_if(are_joined(alloc, first, second)?, first),
+        Binary::Append => copy_kind_if_true(are_joinable(alloc, first, second)?, first),
         Binary::Nth => nth_type(alloc, first, second),
         Binary::Get => kind_of_get_result(alloc, first, second),
         Binary::Has => kind_of_type_if_true(
@@ -306,7 +306,7 @@ pub fn binary_type(
             is_map_with_key_type(alloc, first, second)?,
             &Ty::Bool,
         ),
-        Binary::Del => kind_if(is_map_with_key_type(alloc, first, second)?, first),
+        Binary::Del => copy_kind_if_true(is_map_with_key_type(alloc, first, second)?, first),
         Binary::Range => range_type(alloc, first, second),
     }
 }
@@ -319,21 +319,21 @@ pub fn int_type(alloc: Global, number: i64) -> Result<Kind, Refusal>
 }
 
 /// `text`, unless the text is too long or has a byte that is not printable.
-pub fn text_type(alloc: Global, bytes: &[u8]) -> Result<Kind, Refusal>
+pub fn text_type_if_lawful(alloc: Global, bytes: &[u8]) -> Result<Kind, Refusal>
     ensures { Answers (spec.where_true (lawful.is_text bytes.now) (Some text)) result }
 {
-    kind_of_type_if_true(alloc, is_text(bytes), &Ty::Text)
+    kind_of_type_if_true(alloc, is_printable_text_within_limit(bytes), &Ty::Text)
 }
 
 /// Whether it has at most `LIMIT` bytes, each 32 to 126.
 #[tactic(auto, using(pst_value::proofs::Typing::within))]
-fn is_text(bytes: &[u8]) -> bool
+fn is_printable_text_within_limit(bytes: &[u8]) -> bool
     ensures { result ≡ lawful.is_text bytes.now }
 {
-    bytes.len() <= LIMIT && all_printable(bytes)
+    bytes.len() <= LIMIT && are_all_printable(bytes)
 }
 
-fn all_printable(bytes: &[u8]) -> bool
+fn are_all_printable(bytes: &[u8]) -> bool
     ensures { result ≡ list_all lawful.is_printable bytes.now }
 {
     bytes.iter().all(|byte| b' ' <= *byte && *byte <= b'~')

@@ -7,7 +7,7 @@ ghost use Rattle.pst_typing.specs.Answers.{Answers};
 ghost use Rattle.pst_typing.specs.Scope.{names_of, names_in, name_seen};
 
 use crate::kinds::Kind;
-use crate::operators::copy_kind;
+use crate::operators::copy_kind_or_refuse;
 use crate::refusal::Refusal;
 use pst_model::{Fun, Item, Op, Param, operation_number, operation_of};
 use pst_value::Items;
@@ -39,7 +39,10 @@ pub enum Names<'a> {
 }
 
 /// The names of parameters, with the kinds of their types.
-fn seen_parameters(alloc: Global, params: &[Param]) -> Result<Items<TypedName>, AllocError>
+fn typed_names_of_parameters(
+    alloc: Global,
+    params: &[Param],
+) -> Result<Items<TypedName>, AllocError>
     ensures { IfOk result (λ seen. map name_seen seen ≡ rules.context_of params.now) }
 {
     let mut seen = Items::new(alloc);
@@ -52,24 +55,27 @@ fn seen_parameters(alloc: Global, params: &[Param]) -> Result<Items<TypedName>, 
 }
 
 /// The names of a scope, with the kinds of their types.
-pub fn names_seen(alloc: Global, scope: &Scope<'_>) -> Result<Items<TypedName>, AllocError>
+pub fn typed_names_of_scope(
+    alloc: Global,
+    scope: &Scope<'_>,
+) -> Result<Items<TypedName>, AllocError>
     ensures { IfOk result (λ seen. map name_seen seen ≡ names_of scope.now) }
 {
     match scope {
-        Scope::Parameters(params) => seen_parameters(alloc, params),
+        Scope::Parameters(params) => typed_names_of_parameters(alloc, params),
         Scope::With(name, kind, outer) => {
             let name = Items::from_slice(alloc, name)?;
             let kind = kind.copy()?;
             let mut seen = Items::new(alloc);
             seen.push(TypedName { name, kind })?;
-            seen.append(names_seen(alloc, outer)?)?;
+            seen.append(typed_names_of_scope(alloc, outer)?)?;
             Ok(seen)
         }
     }
 }
 
 /// The kind of `name` among the names that the whole expression sees.
-fn kind_seen<'a>(seen: &'a [TypedName], name: &[u8]) -> Option<&'a Kind>
+fn kind_of_outer_name<'a>(seen: &'a [TypedName], name: &[u8]) -> Option<&'a Kind>
     ensures { option_copied result ≡ rules.type_named (map name_seen seen.now) name.now }
 {
     match seen {
@@ -77,7 +83,7 @@ fn kind_seen<'a>(seen: &'a [TypedName], name: &[u8]) -> Option<&'a Kind>
         [first, others @ ..] => if first.name.as_slice() == name {
             Some(&first.kind)
         } else {
-            kind_seen(others, name)
+            kind_of_outer_name(others, name)
         },
     }
 }
@@ -87,7 +93,7 @@ pub fn kind_of_variable(names: &Names<'_>, name: &[u8]) -> Result<Kind, Refusal>
     ensures { Answers (rules.type_named (names_in names.now) name.now) result }
 {
     match names {
-        Names::Outer(seen) => copy_kind(kind_seen(seen, name)),
+        Names::Outer(seen) => copy_kind_or_refuse(kind_of_outer_name(seen, name)),
         Names::With(bound, kind, outer) => {
             if *bound == name {
                 return Ok(kind.copy()?);
@@ -98,7 +104,7 @@ pub fn kind_of_variable(names: &Names<'_>, name: &[u8]) -> Result<Kind, Refusal>
 }
 
 /// The last function of the name.
-pub fn function_called<'a>(items: &'a [Item], name: &[u8]) -> Option<&'a Fun>
+pub fn last_function_of_name<'a>(items: &'a [Item], name: &[u8]) -> Option<&'a Fun>
     ensures { option_copied result ≡ rules.signature (reverse items.now) name.now }
 {
     let (last, earlier) = items.split_last()?;
@@ -107,9 +113,9 @@ pub fn function_called<'a>(items: &'a [Item], name: &[u8]) -> Option<&'a Fun>
             if fun.name.as_bytes() == name {
                 return Some(fun);
             }
-            function_called(earlier, name)
+            last_function_of_name(earlier, name)
         }
-        _ => function_called(earlier, name),
+        _ => last_function_of_name(earlier, name),
     }
 }
 

@@ -10,23 +10,23 @@ use pst_value::Ty;
 /// Whether `ref` or `call` occurs in a type.
 #[cycle(refs)]
 #[tactic(auto, using(crate::proofs::Holding::refs))]
-pub fn holds_ref(ty: &Ty) -> bool
-    ensures { result ≡ kinds.holds_ref ty.now }
+pub fn holds_ref_or_call(ty: &Ty) -> bool
+    ensures { result ≡ kinds.holds_ref_or_call ty.now }
 {
     match ty {
         Ty::Int | Ty::Bool | Ty::Text => false,
-        Ty::Tuple(items) => any_holds_ref(items.as_slice()),
-        Ty::List(item) | Ty::Map(_, item) => holds_ref(item.get()),
+        Ty::Tuple(items) => any_holds_ref_or_call(items.as_slice()),
+        Ty::List(item) | Ty::Map(_, item) => holds_ref_or_call(item.get()),
         Ty::Ref(_) | Ty::Call => true,
     }
 }
 
 #[cycle(refs)]
-fn any_holds_ref(types: &[Ty]) -> bool
-    ensures { result ≡ list_any kinds.holds_ref types.now }
+fn any_holds_ref_or_call(types: &[Ty]) -> bool
+    ensures { result ≡ list_any kinds.holds_ref_or_call types.now }
 {
     for ty in types {
-        if holds_ref(ty) {
+        if holds_ref_or_call(ty) {
             return true;
         }
     }

@@ -13,8 +13,8 @@ pub expressions::operands_code-loop-expr-preserved : goal.expressions::operands_
 expressions::operands_code-loop-expr-preserved t c =
     let m = code_in c.args.context.now in
     let sc = scope_of c.args.names.now in
-    let r : c.in_ok-next.next.register ≡ c.loop-expr.next.register + 1 = c.in_ok-next.ensures.register ∙ ap (λ n. n + 1) c.in_ok-after.ensures.register in
-    let p : c.in_ok-next.next.place ≡ c.loop-expr.next.place + length c.in_ok-operand.operand.code = c.in_ok-next.ensures.place ∙ c.in_ok-after.ensures.place ∙ ap (λ n. c.loop-expr.next.place + n) c.len.ensures in
+    let r : c.in_ok-next.next.register ≡ c.loop-expr.next.register + 1 = c.in_ok-next.ensures.register ∙ ap (λ n. n + 1) c.in_ok-instructions_later.ensures.register in
+    let p : c.in_ok-next.next.place ≡ c.loop-expr.next.place + length c.in_ok-operand.operand.code = c.in_ok-next.ensures.place ∙ c.in_ok-instructions_later.ensures.place ∙ ap (λ n. c.loop-expr.next.place + n) c.len.ensures in
     record {
       code = code_next m c.args.exprs.now c.loop-expr.expr-index c.expr-item.result sc c.loop-expr.next.register c.loop-expr.next.place c.in_ok-next.next.register c.in_ok-next.next.place c.loop-expr.code c.append.new.self c.in_ok-operand.operand.code _
           c.loop-expr-test.true c.expr-item.is c.loop-expr.invariant.code c.in_ok-operand.ensures.code r p c.in_ok-append.ensures.ok;

@@ -43,11 +43,11 @@ decreases-expressions::operands_code l = 4 * total (map weight l.exprs.now) + 2
 abbrev pub decreases-overwriting::overwriting_code : goal.decreases-overwriting::overwriting_code
 decreases-overwriting::overwriting_code l = 4 * weight l.expr.now + 1
 
-abbrev pub decreases-overwriting::overwrite_by_let : goal.decreases-overwriting::overwrite_by_let
-decreases-overwriting::overwrite_by_let l = 4 * (weight l.bound.now + weight l.body.now) + 3
+abbrev pub decreases-overwriting::overwriting_let_code : goal.decreases-overwriting::overwriting_let_code
+decreases-overwriting::overwriting_let_code l = 4 * (weight l.bound.now + weight l.body.now) + 3
 
-abbrev pub decreases-overwriting::overwrite_by_if : goal.decreases-overwriting::overwrite_by_if
-decreases-overwriting::overwrite_by_if l = 4 * (weight l.test.now + weight l.then.now + weight l.other.now) + 3
+abbrev pub decreases-overwriting::overwriting_if_code : goal.decreases-overwriting::overwriting_if_code
+decreases-overwriting::overwriting_if_code l = 4 * (weight l.test.now + weight l.then.now + weight l.other.now) + 3
 
 abbrev pub decreases-loops::for_code : goal.decreases-loops::for_code
 decreases-loops::for_code l = 4 * (total (map clause_weight l.clauses.now) + weight l.body.now) + 3

@@ -2,7 +2,9 @@
 ghost use Rattle.std.specs.Prelude.{◌≡◌, IfOk};
 ghost use Rattle.pst_runs.specs.Lawful.{AreLawful};
 
-use crate::memory::reading::{text_of, trees_of, typed_counter_model};
+use crate::memory::reading::{
+    read_and_check_counter_model, read_counter_trees, text_of_bytes_or_refusal,
+};
 use crate::memory::refused::Refused;
 use crate::models::COUNTER_AND_ITEMS;
 use pst_case::{Case, CaseFaultKind, Run};
@@ -19,10 +21,10 @@ use std::alloc::{AllocError, Global};
 use std::thread::Threads;
 
 /// The items of the counter's text.
-fn runs_of(alloc: Global, typed: &Typed) -> Result<Vec<Run>, Refused>
+fn read_counter_runs(alloc: Global, typed: &Typed) -> Result<Vec<Run>, Refused>
     ensures { IfOk result (λ runs. AreLawful typed.now runs.items) }
 {
-    let trees = trees_of(alloc)?;
+    let trees = read_counter_trees(alloc)?;
     match read_runs(alloc, typed, trees_after_model(trees.as_slice())) {
         Ok(runs) => Ok(runs),
         Err(fault) if fault.kind == RunFaultKind::Case(CaseFaultKind::NoMemory) => {
@@ -33,21 +35,21 @@ fn runs_of(alloc: Global, typed: &Typed) -> Result<Vec<Run>, Refused>
 }
 
 /// Calls `read_runs` and `write_runs`, and returns the written items.
-pub fn runs_answer(alloc: Global) -> Result<String, Refused> {
-    let typed = typed_counter_model(alloc)?;
-    let runs = runs_of(alloc, &typed)?;
+pub fn read_and_write_counter_runs(alloc: Global) -> Result<String, Refused> {
+    let typed = read_and_check_counter_model(alloc)?;
+    let runs = read_counter_runs(alloc, &typed)?;
     let mut out = Out::new(Vec::new(alloc));
     match write_runs(alloc, &typed, runs.as_slice(), &mut out) {
-        Ok(()) => text_of(alloc, out.into_inner().as_slice()),
+        Ok(()) => text_of_bytes_or_refusal(alloc, out.into_inner().as_slice()),
         // A `Vec` that cannot grow is a writer that fails.
         Err(WriteFault::NoMemory | WriteFault::WriteFailed) => Err(Refused::NoMemory),
     }
 }
 
 /// Calls `verdict`, which uses `some`, and returns the verdict on the run.
-pub fn verdict_answer(alloc: Global) -> Result<String, Refused> {
-    let typed = typed_counter_model(alloc)?;
-    let runs = runs_of(alloc, &typed)?;
+pub fn verdict_text_of_first_counter_run(alloc: Global) -> Result<String, Refused> {
+    let typed = read_and_check_counter_model(alloc)?;
+    let runs = read_counter_runs(alloc, &typed)?;
     let Some((run, _)) = runs.as_slice().split_first() else {
         return Err(Refused::Otherwise("no run"));
     };
@@ -59,7 +61,11 @@ pub fn verdict_answer(alloc: Global) -> Result<String, Refused> {
 }
 
 /// Returns `valid`, or an error if the case is not valid.
-fn valid_text(alloc: Global, typed: &Typed, case: Case) -> Result<String, Refused> {
+fn valid_text_or_refusal_of_case(
+    alloc: Global,
+    typed: &Typed,
+    case: Case,
+) -> Result<String, Refused> {
     match valid_case_if_accepted(&Plain::new(typed), alloc, typed, case)? {
         Some(_) => Ok(String::from_str(alloc, "valid")?),
         None => Err(Refused::Otherwise("not valid")),
@@ -67,37 +73,40 @@ fn valid_text(alloc: Global, typed: &Typed, case: Case) -> Result<String, Refuse
 }
 
 /// Calls `valid_case_if_accepted`, which uses `every`, and returns whether the case of the run is valid.
-pub fn valid_answer(alloc: Global) -> Result<String, Refused> {
-    let typed = typed_counter_model(alloc)?;
-    let runs = runs_of(alloc, &typed)?;
+pub fn valid_text_of_counter_case(alloc: Global) -> Result<String, Refused> {
+    let typed = read_and_check_counter_model(alloc)?;
+    let runs = read_counter_runs(alloc, &typed)?;
     match runs.as_slice().first() {
-        Some(run) => valid_text(alloc, &typed, run.shaped.case().copy(alloc)?),
+        Some(run) => valid_text_or_refusal_of_case(alloc, &typed, run.shaped.case().copy(alloc)?),
         None => Err(Refused::Otherwise("no case")),
     }
 }
 
 /// Returns the case in its `Debug` form.
-fn case_text(alloc: Global, valid: &Valid) -> Result<String, AllocError> {
+fn debug_text_of_valid_case(alloc: Global, valid: &Valid) -> Result<String, AllocError> {
     let case = valid.shaped().case();
     format!(in alloc; "{case:?}")
 }
 
 /// Calls `generate` and returns a case of four commands.
-pub fn generate_answer(alloc: Global) -> Result<String, Refused> {
-    let typed = typed_counter_model(alloc)?;
-    let mut words = Pcg64::new(7, 0);
-    match generate(&Plain::new(&typed), alloc, &typed, &mut words, 4, 2, 0)? {
-        Ok(valid) => Ok(case_text(alloc, &valid)?),
+pub fn generated_counter_case_text(alloc: Global) -> Result<String, Refused> {
+    let typed = read_and_check_counter_model(alloc)?;
+    let mut generator = Pcg64::new(7, 0);
+    match generate(&Plain::new(&typed), alloc, &typed, &mut generator, 4, 2, 0)? {
+        Ok(valid) => Ok(debug_text_of_valid_case(alloc, &valid)?),
         Err(_) => Err(Refused::Otherwise("a fault")),
     }
 }
 
 /// Calls `judge_text`, which uses `rejudge`, and returns the lines of the items.
-pub fn rejudge_answer<R: Threads + Sync>(rt: &R, alloc: Global) -> Result<String, Refused> {
+pub fn judge_output_for_counter_items<R: Threads + Sync>(
+    rt: &R,
+    alloc: Global,
+) -> Result<String, Refused> {
     let mut out = Out::new(Vec::new(alloc));
     let status = judge_text(rt, alloc, COUNTER_AND_ITEMS.as_bytes(), &mut out);
     if status == Status::Lost {
         return Err(Refused::NoMemory);
     }
-    text_of(alloc, out.into_inner().as_slice())
+    text_of_bytes_or_refusal(alloc, out.into_inner().as_slice())
 }

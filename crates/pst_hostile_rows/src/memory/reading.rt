@@ -10,7 +10,7 @@ use pst_typing::{TypeFault, check, model_name};
 use std::alloc::Global;
 
 /// The trees of the counter's text.
-pub fn trees_of(alloc: Global) -> Result<Vec<Tree>, Refused> {
+pub fn read_counter_trees(alloc: Global) -> Result<Vec<Tree>, Refused> {
     match read(alloc, COUNTER_AND_ITEMS.as_bytes()) {
         Ok(trees) => Ok(trees),
         Err(fault) if fault.kind == FaultKind::NoMemory => Err(Refused::NoMemory),
@@ -20,7 +20,7 @@ pub fn trees_of(alloc: Global) -> Result<Vec<Tree>, Refused> {
 
 /// The counter's model.
 fn read_counter_model(alloc: Global) -> Result<Model, Refused> {
-    let trees = trees_of(alloc)?;
+    let trees = read_counter_trees(alloc)?;
     match read_model(alloc, trees.as_slice()) {
         Ok(model) => Ok(model),
         Err(fault) if fault.kind == ModelFaultKind::NoMemory => Err(Refused::NoMemory),
@@ -29,7 +29,7 @@ fn read_counter_model(alloc: Global) -> Result<Model, Refused> {
 }
 
 /// The counter's well-typed model.
-pub fn typed_counter_model(alloc: Global) -> Result<Typed, Refused> {
+pub fn read_and_check_counter_model(alloc: Global) -> Result<Typed, Refused> {
     match check(alloc, read_counter_model(alloc)?) {
         Ok(typed) => Ok(typed),
         Err((_, TypeFault::NoMemory)) => Err(Refused::NoMemory),
@@ -38,15 +38,15 @@ pub fn typed_counter_model(alloc: Global) -> Result<Typed, Refused> {
 }
 
 /// The counter's compiled model.
-fn compiled_of(alloc: Global) -> Result<Compiled, Refused> {
-    match compile(alloc, typed_counter_model(alloc)?) {
+fn compile_counter_model(alloc: Global) -> Result<Compiled, Refused> {
+    match compile(alloc, read_and_check_counter_model(alloc)?) {
         Ok(compiled) => Ok(compiled),
         Err(_) => Err(Refused::NoMemory),
     }
 }
 
 /// A text of bytes.
-pub fn text_of(alloc: Global, bytes: &[u8]) -> Result<String, Refused> {
+pub fn text_of_bytes_or_refusal(alloc: Global, bytes: &[u8]) -> Result<String, Refused> {
     match std::str::from_utf8(bytes) {
         Ok(text) => Ok(String::from_str(alloc, text)?),
         Err(_) => Err(Refused::Otherwise("no text")),
@@ -54,36 +54,36 @@ pub fn text_of(alloc: Global, bytes: &[u8]) -> Result<String, Refused> {
 }
 
 /// The spelling of a tree.
-fn spelling_of(alloc: Global, tree: &Tree) -> Result<String, Refused> {
+fn spell_tree_or_refuse(alloc: Global, tree: &Tree) -> Result<String, Refused> {
     let mut out = Out::new(Vec::new(alloc));
     match write(tree, &mut out) {
-        Ok(()) => text_of(alloc, out.into_inner().as_slice()),
+        Ok(()) => text_of_bytes_or_refusal(alloc, out.into_inner().as_slice()),
         Err(_) => Err(Refused::NoMemory),
     }
 }
 
 /// Calls `read` and returns the last tree of the text.
-pub fn read_answer(alloc: Global) -> Result<String, Refused> {
-    match trees_of(alloc)?.last() {
-        Some(tree) => spelling_of(alloc, tree),
+pub fn read_and_spell_last_counter_tree(alloc: Global) -> Result<String, Refused> {
+    match read_counter_trees(alloc)?.last() {
+        Some(tree) => spell_tree_or_refuse(alloc, tree),
         None => Err(Refused::Otherwise("no trees")),
     }
 }
 
 /// Calls `read_model` and `print_model`, and returns the printed model.
-pub fn model_answer(alloc: Global) -> Result<String, Refused> {
+pub fn read_and_print_counter_model(alloc: Global) -> Result<String, Refused> {
     let model = read_counter_model(alloc)?;
-    spelling_of(alloc, &print_model(alloc, &model)?)
+    spell_tree_or_refuse(alloc, &print_model(alloc, &model)?)
 }
 
 /// Calls `check` and returns the name of the well-typed model.
-pub fn check_answer(alloc: Global) -> Result<String, Refused> {
-    let typed = typed_counter_model(alloc)?;
+pub fn name_of_checked_counter_model(alloc: Global) -> Result<String, Refused> {
+    let typed = read_and_check_counter_model(alloc)?;
     Ok(String::from_str(alloc, model_name(&typed).as_str())?)
 }
 
 /// Calls `compile` and `listing`, and returns the code.
-pub fn compile_answer(alloc: Global) -> Result<String, Refused> {
-    let code = listing(alloc, &compiled_of(alloc)?)?;
-    text_of(alloc, code.as_slice())
+pub fn listing_of_compiled_counter(alloc: Global) -> Result<String, Refused> {
+    let code = listing(alloc, &compile_counter_model(alloc)?)?;
+    text_of_bytes_or_refusal(alloc, code.as_slice())
 }

@@ -2,7 +2,7 @@
 ghost use Rattle.std.specs.Prelude.{◌≡◌, length};
 ghost use Rattle.pst_report.specs.InOrder.{AreOf};
 
-use crate::memory::reading::text_of;
+use crate::memory::reading::text_of_bytes_or_refusal;
 use crate::memory::refused::Refused;
 use pst_campaign::{CampaignFault, Unwatched, campaign};
 use pst_ledger::{Closed, Entry};
@@ -18,7 +18,7 @@ use std::sync::{Arc, Wait};
 use std::thread::Threads;
 
 /// The settings of trials of one command, each of whose cases is driven once.
-pub fn settings_of(trials: u32) -> Settings {
+pub fn settings_for_trials_of_one_command(trials: u32) -> Settings {
     Settings {
         seed: 7,
         trials,
@@ -28,9 +28,9 @@ pub fn settings_of(trials: u32) -> Settings {
     }
 }
 
-/// The plan of trials with [`settings_of`].
-pub fn plan_of(alloc: Global, trials: u32) -> Result<Arc<Plan>, Refused> {
-    let settings = settings_of(trials);
+/// The plan of trials with [`settings_for_trials_of_one_command`].
+pub fn plan_for_trials_of_one_command(alloc: Global, trials: u32) -> Result<Arc<Plan>, Refused> {
+    let settings = settings_for_trials_of_one_command(trials);
     if !settings.are_in_range() {
         return Err(Refused::Otherwise("settings out of range"));
     }
@@ -44,13 +44,13 @@ pub fn plan_of(alloc: Global, trials: u32) -> Result<Arc<Plan>, Refused> {
 }
 
 /// Returns the record as text.
-fn record_text(alloc: Global, record: &Record) -> Result<String, AllocError> {
+fn debug_text_of_record_outcome(alloc: Global, record: &Record) -> Result<String, AllocError> {
     let outcome = record.outcome();
     format!(in alloc; "{outcome:?}")
 }
 
 /// The record of the first trial of a plan.
-fn record_of<R: Threads + Wait>(
+fn run_first_trial_on_stuck_system<R: Threads + Wait>(
     rt: &R,
     alloc: Global,
     plan: &Arc<Plan>,
@@ -64,9 +64,16 @@ fn record_of<R: Threads + Wait>(
 }
 
 /// Runs `trial` and returns the record of the first trial.
-pub fn trial_answer<R: Threads + Wait>(rt: &R, alloc: Global) -> Result<String, Refused> {
-    let record = record_of(rt, alloc, &plan_of(alloc, 3)?)?;
-    Ok(record_text(alloc, &record)?)
+pub fn outcome_text_of_trial_on_stuck_system<R: Threads + Wait>(
+    rt: &R,
+    alloc: Global,
+) -> Result<String, Refused> {
+    let record = run_first_trial_on_stuck_system(
+        rt,
+        alloc,
+        &plan_for_trials_of_one_command(alloc, 3)?,
+    )?;
+    Ok(debug_text_of_record_outcome(alloc, &record)?)
 }
 
 /// Returns whether each trial has a record.
@@ -80,7 +87,11 @@ fn has_record_for_each_trial(entries: &[Entry<Record>]) -> bool {
 }
 
 /// Returns the report of the campaign, if each trial has a record.
-fn report_of(alloc: Global, plan: &Plan, closed: &Closed<Record>) -> Result<String, Refused>
+fn report_if_all_trials_are_done(
+    alloc: Global,
+    plan: &Plan,
+    closed: &Closed<Record>,
+) -> Result<String, Refused>
     requires trials { length closed.now ≡ plan.now.settings.trials }
     requires records { AreOf plan.now 0 closed.now }
 {
@@ -89,45 +100,53 @@ fn report_of(alloc: Global, plan: &Plan, closed: &Closed<Record>) -> Result<Stri
     }
     let mut out = Out::new(Vec::new(alloc));
     match report(alloc, plan, closed, &mut out) {
-        Ok(()) => text_of(alloc, out.into_inner().as_slice()),
+        Ok(()) => text_of_bytes_or_refusal(alloc, out.into_inner().as_slice()),
         Err(_) => Err(Refused::NoMemory),
     }
 }
 
 /// Runs a campaign and returns its report.
-fn report_by<R: Threads + Wait + Sync>(
+fn run_campaign_and_return_report<R: Threads + Wait + Sync>(
     rt: &R,
     alloc: Global,
     plan: Arc<Plan>,
     systems: Vec<BoxedSystem>,
 ) -> Result<String, Refused> {
     match campaign(rt, alloc, plan.clone()?, systems, &Unwatched) {
-        Ok(closed) => report_of(alloc, &plan, &closed),
+        Ok(closed) => report_if_all_trials_are_done(alloc, &plan, &closed),
         Err(_) => Err(Refused::NoMemory),
     }
 }
 
 /// Runs a campaign of one worker and returns its `report`.
-pub fn report_answer<R: Threads + Wait + Sync>(rt: &R, alloc: Global) -> Result<String, Refused> {
+pub fn campaign_report_on_stuck_system<R: Threads + Wait + Sync>(
+    rt: &R,
+    alloc: Global,
+) -> Result<String, Refused> {
     let mut systems: Vec<BoxedSystem> = Vec::new(alloc);
     systems.push(Box::new(alloc, Stuck)?)?;
-    report_by(rt, alloc, plan_of(alloc, 3)?, systems)
+    run_campaign_and_return_report(
+        rt,
+        alloc,
+        plan_for_trials_of_one_command(alloc, 3)?,
+        systems,
+    )
 }
 
 /// Returns the record of a trial, or why it was lost.
-fn entry_text(alloc: Global, entry: &Entry<Record>) -> Result<String, AllocError> {
+fn trial_outcome_or_loss_text(alloc: Global, entry: &Entry<Record>) -> Result<String, AllocError> {
     match entry {
-        Entry::Done(record) => record_text(alloc, record),
+        Entry::Done(record) => debug_text_of_record_outcome(alloc, record),
         Entry::Lost(cause) => format!(in alloc; "lost {cause:?}"),
         Entry::Held | Entry::Undrawn => String::from_str(alloc, "open"),
     }
 }
 
 /// Returns a line for each trial.
-fn entries_text(alloc: Global, entries: &[Entry<Record>]) -> Result<String, AllocError> {
+fn lines_of_trial_outcomes(alloc: Global, entries: &[Entry<Record>]) -> Result<String, AllocError> {
     let mut text = String::new(alloc);
     for entry in entries {
-        let line = entry_text(alloc, entry)?;
+        let line = trial_outcome_or_loss_text(alloc, entry)?;
         text.push_str(line.as_str())?;
         text.push_str("\n")?;
     }
@@ -135,21 +154,21 @@ fn entries_text(alloc: Global, entries: &[Entry<Record>]) -> Result<String, Allo
 }
 
 /// Runs a campaign and returns a line for each trial.
-fn entries_by<R: Threads + Wait + Sync>(
+fn run_campaign_and_list_trial_outcomes<R: Threads + Wait + Sync>(
     rt: &R,
     alloc: Global,
     plan: Arc<Plan>,
     systems: Vec<BoxedSystem>,
 ) -> Result<String, Refused> {
     match campaign(rt, alloc, plan, systems, &Unwatched) {
-        Ok(closed) => Ok(entries_text(alloc, closed.entries())?),
+        Ok(closed) => Ok(lines_of_trial_outcomes(alloc, closed.entries())?),
         Err(CampaignFault::NoMemory) => Err(Refused::NoMemory),
         Err(fault) => Err(Refused::Otherwise(fault.name())),
     }
 }
 
 /// Runs `campaign` with `workers` workers and returns a line for each trial.
-pub fn campaign_answer<R: Threads + Wait + Sync>(
+pub fn trial_outcome_lines_on_stuck_systems<R: Threads + Wait + Sync>(
     rt: &R,
     alloc: Global,
     workers: u32,
@@ -158,5 +177,10 @@ pub fn campaign_answer<R: Threads + Wait + Sync>(
     for _ in 0..workers {
         systems.push(Box::new(alloc, Stuck)?)?;
     }
-    entries_by(rt, alloc, plan_of(alloc, 3)?, systems)
+    run_campaign_and_list_trial_outcomes(
+        rt,
+        alloc,
+        plan_for_trials_of_one_command(alloc, 3)?,
+        systems,
+    )
 }

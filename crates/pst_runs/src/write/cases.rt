@@ -5,7 +5,7 @@ ghost use Rattle.pst_runs.specs.Written as spec;
 use crate::write::values::forms_of_values;
 use pst_case::{Case, Command};
 use pst_model::{Source, operation_of};
-use pst_sexpr::{Form, headed, list_of};
+use pst_sexpr::{Form, headed, list_of_one_form};
 use pst_value::Items;
 use std::alloc::{AllocError, Global};
 
@@ -60,7 +60,7 @@ fn branch_forms(
 }
 
 /// Returns the trees of the branches: two as `left` and `right`, any other number as `branches`.
-fn branches_forms(
+fn branch_section_forms(
     alloc: Global,
     model: &Source,
     branches: &[Items<Command>],
@@ -71,11 +71,11 @@ fn branches_forms(
         [left, right] => {
             let left = section_form_of_commands(alloc, model, "left", left.as_slice())?;
             let right = section_form_of_commands(alloc, model, "right", right.as_slice())?;
-            let mut forms = list_of(alloc, left)?;
+            let mut forms = list_of_one_form(alloc, left)?;
             forms.push(right)?;
             Ok(forms)
         }
-        _ => list_of(
+        _ => list_of_one_form(
             alloc,
             headed(alloc, "branches", branch_forms(alloc, model, branches)?)?,
         ),
@@ -87,8 +87,8 @@ pub fn case_forms(alloc: Global, model: &Source, case: &Case) -> Result<Items<Fo
     ensures { IfOk result (λ forms. forms ≡ spec.case_forms model.now case.now) }
 {
     let prefix = section_form_of_commands(alloc, model, "prefix", case.prefix.as_slice())?;
-    let mut forms = list_of(alloc, prefix)?;
-    forms.append(branches_forms(alloc, model, case.branches.as_slice())?)?;
+    let mut forms = list_of_one_form(alloc, prefix)?;
+    forms.append(branch_section_forms(alloc, model, case.branches.as_slice())?)?;
     if !case.suffix.is_empty() {
         forms.push(section_form_of_commands(alloc, model, "suffix", case.suffix.as_slice())?)?;
     }

@@ -13,7 +13,7 @@ use pst_model::{Source, Typed};
 use pst_sexpr::{Form, Tree, headed};
 use std::alloc::{AllocError, Global};
 
-fn item_form(
+fn case_or_run_form(
     alloc: Global,
     model: &Source,
     case: &Case,
@@ -55,6 +55,6 @@ pub fn run_tree(alloc: Global, typed: &Typed, run: &Run) -> Result<Tree, AllocEr
     ensures read { IfOk result (λ tree. item_of typed.now tree ≡ Ok run.now) }
 {
     prove_run_is_read_back(typed, run);
-    let form = item_form(alloc, typed.source(), run.shaped.case(), &run.history)?;
+    let form = case_or_run_form(alloc, typed.source(), run.shaped.case(), &run.history)?;
     Ok(Tree::new(form))
 }

@@ -4,7 +4,7 @@ ghost use Rattle.pst_runs.specs.Written as spec;
 
 use crate::write::values::value_form;
 use pst_case::{History, Reply};
-use pst_sexpr::{Form, headed, list_of, word};
+use pst_sexpr::{Form, headed, list_of_one_form, word};
 use pst_value::Items;
 use std::alloc::{AllocError, Global};
 
@@ -45,7 +45,7 @@ fn reply_list_forms(alloc: Global, branches: &[Items<Reply>]) -> Result<Items<Fo
 pub fn replies_form(alloc: Global, history: &History) -> Result<Form, AllocError>
     ensures { IfOk result (λ form. form ≡ spec.replies_form history.now) }
 {
-    let mut lists = list_of(alloc, reply_list_form(alloc, history.prefix.as_slice())?)?;
+    let mut lists = list_of_one_form(alloc, reply_list_form(alloc, history.prefix.as_slice())?)?;
     lists.append(reply_list_forms(alloc, history.branches.as_slice())?)?;
     if !history.suffix.is_empty() {
         lists.push(reply_list_form(alloc, history.suffix.as_slice())?)?;

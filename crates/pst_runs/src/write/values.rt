@@ -8,7 +8,7 @@ use pst_sexpr::{Form, headed, word};
 use pst_value::{Items, Key, Text, Value};
 use std::alloc::{AllocError, Global};
 
-fn integer_form(alloc: Global, number: i64) -> Result<Form, AllocError>
+fn integer_value_form(alloc: Global, number: i64) -> Result<Form, AllocError>
     ensures { IfOk result (λ form. form ≡ Word (signed_decimal number)) }
 {
     Ok(Form::Word(Text::from_string(format!(in alloc; "{number}")?)))
@@ -20,7 +20,7 @@ fn variable_form(alloc: Global, number: u32) -> Result<Form, AllocError>
     Ok(Form::Word(Text::from_string(format!(in alloc; "${number}")?)))
 }
 
-fn bool_form(alloc: Global, holds: bool) -> Result<Form, AllocError>
+fn bool_value_form(alloc: Global, holds: bool) -> Result<Form, AllocError>
     ensures { IfOk result (λ form. form ≡ Word (truth_word holds)) }
 {
     if holds {
@@ -35,8 +35,8 @@ fn map_key_form(alloc: Global, key: &Key) -> Result<Form, AllocError>
     ensures { IfOk result (λ form. form ≡ key_form key.now) }
 {
     match key {
-        Key::Int(number) => integer_form(alloc, *number),
-        Key::Bool(holds) => bool_form(alloc, *holds),
+        Key::Int(number) => integer_value_form(alloc, *number),
+        Key::Bool(holds) => bool_value_form(alloc, *holds),
         Key::Text(text) => Ok(Form::Text(text.copy(alloc)?)),
     }
 }
@@ -59,8 +59,8 @@ pub fn value_form(alloc: Global, value: &Value) -> Result<Form, AllocError>
     ensures { IfOk result (λ form. form ≡ value_form value.now) }
 {
     match value {
-        Value::Int(number) => integer_form(alloc, *number),
-        Value::Bool(holds) => bool_form(alloc, *holds),
+        Value::Int(number) => integer_value_form(alloc, *number),
+        Value::Bool(holds) => bool_value_form(alloc, *holds),
         Value::Text(text) => Ok(Form::Text(text.copy(alloc)?)),
         Value::Tuple(parts) => headed(alloc, "tuple", forms_of_values(alloc, parts.as_slice())?),
         Value::List(parts) => headed(alloc, "list", forms_of_values(alloc, parts.as_slice())?),

@@ -1,7 +1,10 @@
 //! Which code is admitted.
 
 use crate::codes::functions::{
-    applies_itself, constant_map, identity, jump_to_itself, kept_keys, last_put, sum, unwritten,
+    code_that_applies_itself, code_that_gets_last_put_value, code_that_jumps_to_itself,
+    code_that_returns_constant_map, code_that_returns_its_argument,
+    code_that_returns_keys_after_deletion, code_that_returns_unwritten_register,
+    code_that_sums_a_list,
 };
 use pst_machine::{Code, FunCode, Instr};
 use pst_value::Items;
@@ -9,7 +12,7 @@ use std::alloc::{AllocError, Global};
 use std::test::Fail;
 
 /// Whether the code is refused, and one function with `length` instructions is handed back.
-fn is_handed_back(functions: Items<FunCode>, length: usize) -> bool {
+fn is_code_refused_and_handed_back(functions: Items<FunCode>, length: usize) -> bool {
     match Code::check(functions) {
         Ok(_) => false,
         Err(back) => match back.as_slice() {
@@ -21,18 +24,18 @@ fn is_handed_back(functions: Items<FunCode>, length: usize) -> bool {
 
 #[test]
 fn a_jump_to_its_own_place_is_refused(rt: HostRuntime) -> Result<(), Fail> {
-    assert!(rt; is_handed_back(jump_to_itself(rt.alloc())?, 1));
+    assert!(rt; is_code_refused_and_handed_back(code_that_jumps_to_itself(rt.alloc())?, 1));
     Ok(())
 }
 
 #[test]
 fn a_function_that_applies_itself_is_refused(rt: HostRuntime) -> Result<(), Fail> {
-    assert!(rt; is_handed_back(applies_itself(rt.alloc())?, 2));
+    assert!(rt; is_code_refused_and_handed_back(code_that_applies_itself(rt.alloc())?, 2));
     Ok(())
 }
 
 /// How many arguments, registers and instructions the only function has, if the code is valid.
-fn sizes(functions: Items<FunCode>) -> Option<(u32, u32, usize)> {
+fn sizes_of_only_function_if_valid(functions: Items<FunCode>) -> Option<(u32, u32, usize)> {
     let code = Code::check(functions).ok()?;
     match code.functions() {
         [function] => Some((function.args, function.registers, function.body.len())),
@@ -43,9 +46,11 @@ fn sizes(functions: Items<FunCode>) -> Option<(u32, u32, usize)> {
 #[test]
 fn valid_code_keeps_its_functions(rt: HostRuntime) -> Result<(), Fail> {
     let alloc = rt.alloc();
-    let of_sum = sizes(sum(alloc)?);
-    let of_unwritten = sizes(unwritten(alloc)?);
-    let of_identity = sizes(identity(alloc)?);
+    let of_sum = sizes_of_only_function_if_valid(code_that_sums_a_list(alloc)?);
+    let of_unwritten = sizes_of_only_function_if_valid(code_that_returns_unwritten_register(
+        alloc,
+    )?);
+    let of_identity = sizes_of_only_function_if_valid(code_that_returns_its_argument(alloc)?);
     let is_valid = Code::check(Items::new(alloc)).is_ok();
     assert!(rt; (of_sum, of_unwritten) == (Some((1, 4, 6)), Some((0, 1, 1))));
     assert!(rt; of_identity == Some((1, 1, 1)) && is_valid);
@@ -53,14 +58,18 @@ fn valid_code_keeps_its_functions(rt: HostRuntime) -> Result<(), Fail> {
 }
 
 /// Whether the code of the functions has this text.
-fn is_listed_as(alloc: Global, functions: Items<FunCode>, text: &str) -> Result<bool, AllocError> {
+fn is_valid_code_listed_as(
+    alloc: Global,
+    functions: Items<FunCode>,
+    text: &str,
+) -> Result<bool, AllocError> {
     let Ok(code) = Code::check(functions) else {
         return Ok(false);
     };
     Ok(code.listing(alloc)?.as_slice() == text.as_bytes())
 }
 
-/// What `kept_keys` is listed as.
+/// What `code_that_returns_keys_after_deletion` is listed as.
 const KEPT_KEYS: &str = "\
 0 0 const 0 (map)
 0 1 const 1 7
@@ -74,7 +83,7 @@ const KEPT_KEYS: &str = "\
 0 9 ret 4
 ";
 
-/// What `last_put` is listed as.
+/// What `code_that_gets_last_put_value` is listed as.
 const LAST_PUT: &str = "\
 0 0 const 0 (map)
 0 1 const 1 4
@@ -89,17 +98,23 @@ const LAST_PUT: &str = "\
 ";
 
 #[test]
-fn the_instructions_of_maps_have_their_names(rt: HostRuntime) -> Result<(), Fail> {
+fn map_instructions_are_listed_by_name(rt: HostRuntime) -> Result<(), Fail> {
     let alloc = rt.alloc();
-    assert!(rt; is_listed_as(alloc, kept_keys(alloc)?, KEPT_KEYS)?);
-    assert!(rt; is_listed_as(alloc, last_put(alloc)?, LAST_PUT)?);
+    assert!(rt;
+        is_valid_code_listed_as(
+            alloc,
+            code_that_returns_keys_after_deletion(alloc)?,
+            KEPT_KEYS
+        )?
+    );
+    assert!(rt; is_valid_code_listed_as(alloc, code_that_gets_last_put_value(alloc)?, LAST_PUT)?);
     Ok(())
 }
 
 #[test]
-fn a_map_is_spelled_as_in_items(rt: HostRuntime) -> Result<(), Fail> {
+fn a_constant_map_is_spelled_in_listings(rt: HostRuntime) -> Result<(), Fail> {
     let alloc = rt.alloc();
     let text = "0 0 const 0 (map (\"a\" -1) (\"b\" (list)))\n0 1 ret 0\n";
-    assert!(rt; is_listed_as(alloc, constant_map(alloc)?, text)?);
+    assert!(rt; is_valid_code_listed_as(alloc, code_that_returns_constant_map(alloc)?, text)?);
     Ok(())
 }

@@ -6,7 +6,7 @@ use pst_value::{Boxed, Items, Key, Text, Value};
 use std::alloc::{AllocError, Global};
 
 /// Code of one function with these instructions.
-fn one_function<const N: usize>(
+fn code_of_one_function<const N: usize>(
     alloc: Global,
     args: u32,
     registers: u32,
@@ -23,7 +23,7 @@ fn one_function<const N: usize>(
 }
 
 /// The sum of a list, by `add` in a loop.
-pub fn sum(alloc: Global) -> Result<Items<FunCode>, AllocError> {
+pub fn code_that_sums_a_list(alloc: Global) -> Result<Items<FunCode>, AllocError> {
     let body = [
         Instr::Const(1, Value::Int(0)),
         Instr::Const(2, Value::Int(0)),
@@ -32,16 +32,16 @@ pub fn sum(alloc: Global) -> Result<Items<FunCode>, AllocError> {
         Instr::Loop(3, 0, 1, 3),
         Instr::Return(2),
     ];
-    one_function(alloc, 1, 4, body)
+    code_of_one_function(alloc, 1, 4, body)
 }
 
 /// The only argument, in the only register.
-pub fn identity(alloc: Global) -> Result<Items<FunCode>, AllocError> {
-    one_function(alloc, 1, 1, [Instr::Return(0)])
+pub fn code_that_returns_its_argument(alloc: Global) -> Result<Items<FunCode>, AllocError> {
+    code_of_one_function(alloc, 1, 1, [Instr::Return(0)])
 }
 
 /// The items of a list, by `append` in a loop.
-pub fn copied_list(alloc: Global) -> Result<Items<FunCode>, AllocError> {
+pub fn code_that_copies_a_list(alloc: Global) -> Result<Items<FunCode>, AllocError> {
     let body = [
         Instr::Const(1, Value::Int(0)),
         Instr::Const(2, Value::List(Items::new(alloc))),
@@ -50,18 +50,18 @@ pub fn copied_list(alloc: Global) -> Result<Items<FunCode>, AllocError> {
         Instr::Loop(3, 0, 1, 3),
         Instr::Return(2),
     ];
-    one_function(alloc, 1, 4, body)
+    code_of_one_function(alloc, 1, 4, body)
 }
 
 /// 5 by 0.
-pub fn division(alloc: Global) -> Result<Items<FunCode>, AllocError> {
+pub fn code_that_divides_by_zero(alloc: Global) -> Result<Items<FunCode>, AllocError> {
     let body = [
         Instr::Const(0, Value::Int(5)),
         Instr::Const(1, Value::Int(0)),
         Instr::Binary(Binary::Div, 2, 0, 1),
         Instr::Return(2),
     ];
-    one_function(alloc, 0, 3, body)
+    code_of_one_function(alloc, 0, 3, body)
 }
 
 /// The map of these keys and values.
@@ -79,7 +79,7 @@ fn empty_map(alloc: Global) -> Result<Value, AllocError> {
 }
 
 /// The keys 7, 3 and 5 are put into a map, and 7 is deleted: its keys then.
-pub fn kept_keys(alloc: Global) -> Result<Items<FunCode>, AllocError> {
+pub fn code_that_returns_keys_after_deletion(alloc: Global) -> Result<Items<FunCode>, AllocError> {
     let body = [
         Instr::Const(0, empty_map(alloc)?),
         Instr::Const(1, Value::Int(7)),
@@ -92,11 +92,11 @@ pub fn kept_keys(alloc: Global) -> Result<Items<FunCode>, AllocError> {
         Instr::Unary(Unary::Keys, 4, 0),
         Instr::Return(4),
     ];
-    one_function(alloc, 0, 5, body)
+    code_of_one_function(alloc, 0, 5, body)
 }
 
 /// The value of key 4 after 9 and then 8 are put there, if 4 is a key of the map.
-pub fn last_put(alloc: Global) -> Result<Items<FunCode>, AllocError> {
+pub fn code_that_gets_last_put_value(alloc: Global) -> Result<Items<FunCode>, AllocError> {
     let body = [
         Instr::Const(0, empty_map(alloc)?),
         Instr::Const(1, Value::Int(4)),
@@ -109,22 +109,22 @@ pub fn last_put(alloc: Global) -> Result<Items<FunCode>, AllocError> {
         Instr::Binary(Binary::Get, 3, 0, 1),
         Instr::Return(3),
     ];
-    one_function(alloc, 0, 4, body)
+    code_of_one_function(alloc, 0, 4, body)
 }
 
 /// The value of key 4 of the map that has no keys.
-pub fn missing_key(alloc: Global) -> Result<Items<FunCode>, AllocError> {
+pub fn code_that_gets_missing_key(alloc: Global) -> Result<Items<FunCode>, AllocError> {
     let body = [
         Instr::Const(0, empty_map(alloc)?),
         Instr::Const(1, Value::Int(4)),
         Instr::Binary(Binary::Get, 2, 0, 1),
         Instr::Return(2),
     ];
-    one_function(alloc, 0, 3, body)
+    code_of_one_function(alloc, 0, 3, body)
 }
 
 /// A map of texts.
-pub fn constant_map(alloc: Global) -> Result<Items<FunCode>, AllocError> {
+pub fn code_that_returns_constant_map(alloc: Global) -> Result<Items<FunCode>, AllocError> {
     let mut keys = Items::new(alloc);
     keys.push(Key::Text(Text::from_string(String::from_str(alloc, "a")?)))?;
     keys.push(Key::Text(Text::from_string(String::from_str(alloc, "b")?)))?;
@@ -135,21 +135,21 @@ pub fn constant_map(alloc: Global) -> Result<Items<FunCode>, AllocError> {
         Instr::Const(0, map_of_keys_and_values(alloc, keys, values)?),
         Instr::Return(0),
     ];
-    one_function(alloc, 0, 1, body)
+    code_of_one_function(alloc, 0, 1, body)
 }
 
 /// It returns a register that no instruction has written.
-pub fn unwritten(alloc: Global) -> Result<Items<FunCode>, AllocError> {
-    one_function(alloc, 0, 1, [Instr::Return(0)])
+pub fn code_that_returns_unwritten_register(alloc: Global) -> Result<Items<FunCode>, AllocError> {
+    code_of_one_function(alloc, 0, 1, [Instr::Return(0)])
 }
 
 /// It jumps to itself.
-pub fn jump_to_itself(alloc: Global) -> Result<Items<FunCode>, AllocError> {
-    one_function(alloc, 0, 1, [Instr::Jump(0)])
+pub fn code_that_jumps_to_itself(alloc: Global) -> Result<Items<FunCode>, AllocError> {
+    code_of_one_function(alloc, 0, 1, [Instr::Jump(0)])
 }
 
 /// It applies itself.
-pub fn applies_itself(alloc: Global) -> Result<Items<FunCode>, AllocError> {
+pub fn code_that_applies_itself(alloc: Global) -> Result<Items<FunCode>, AllocError> {
     let body = [Instr::Apply(0, 0, Items::new(alloc)), Instr::Return(0)];
-    one_function(alloc, 0, 1, body)
+    code_of_one_function(alloc, 0, 1, body)
 }

@@ -1,45 +1,45 @@
 //! Lists of shrink candidates, complete and in order, worked out by hand.
 
-use crate::shrunk::cases::{case_of, is_small};
+use crate::shrunk::cases::{case_of_short_text, is_case_small_enough_to_shrink};
 use pst_shrink::candidates;
 use std::alloc::{AllocError, Global};
 use std::process::Abort;
 use std::test::Fail;
 
 /// Asserts that the case of a text has just these candidates.
-fn assert_candidates(
+fn assert_shrink_candidates(
     rt: &impl Abort,
     alloc: Global,
     text: &str,
     expected: &[&str],
 ) -> Result<(), AllocError> {
-    let case = case_of(alloc, text)?;
-    assert!(rt; is_small(&case));
+    let case = case_of_short_text(alloc, text)?;
+    assert!(rt; is_case_small_enough_to_shrink(&case));
     let found = candidates(alloc, &case)?;
     assert_eq!(rt; found.len(), expected.len());
     for (found, text) in found.as_slice().iter().zip(expected) {
-        let expected = case_of(alloc, text)?;
+        let expected = case_of_short_text(alloc, text)?;
         assert!(rt; *found == expected, "not the candidate {text}");
     }
     Ok(())
 }
 
 #[test]
-fn commands_that_nothing_uses(rt: HostRuntime) -> Result<(), Fail> {
+fn unused_commands_are_dropped_or_moved(rt: HostRuntime) -> Result<(), Fail> {
     let expected = ["| g | i", "i | | i", "i | g |", "i g | | i", "i i | g |"];
-    assert_candidates(&rt, rt.alloc(), "i | g | i", &expected)?;
+    assert_shrink_candidates(&rt, rt.alloc(), "i | g | i", &expected)?;
     Ok(())
 }
 
 #[test]
-fn a_command_that_is_used(rt: HostRuntime) -> Result<(), Fail> {
+fn a_used_command_is_not_dropped(rt: HostRuntime) -> Result<(), Fail> {
     let expected = ["| | n c1", "| n | n", "n | | n c2", "n | n | c1"];
-    assert_candidates(&rt, rt.alloc(), "| n | n c2", &expected)?;
+    assert_shrink_candidates(&rt, rt.alloc(), "| n | n c2", &expected)?;
     Ok(())
 }
 
 #[test]
-fn three_branches(rt: HostRuntime) -> Result<(), Fail> {
+fn three_branches_have_expected_candidates(rt: HostRuntime) -> Result<(), Fail> {
     let expected = [
         "n | | n u2 | u1",
         "n | n | n | u1",
@@ -48,13 +48,13 @@ fn three_branches(rt: HostRuntime) -> Result<(), Fail> {
         "n n | n | u2 | u1",
         "n u1 | n | n u4 |",
     ];
-    assert_candidates(&rt, rt.alloc(), "n | n | n u3 | u1", &expected)?;
+    assert_shrink_candidates(&rt, rt.alloc(), "n | n | n u3 | u1", &expected)?;
     Ok(())
 }
 
 /// A command of the suffix is left out in its turn, and is never moved. Number 9 is of no command, and stays.
 #[test]
-fn a_suffix(rt: HostRuntime) -> Result<(), Fail> {
+fn suffix_commands_are_never_moved(rt: HostRuntime) -> Result<(), Fail> {
     let expected = [
         "n | n | > u2 n u4 u9",
         "n | n | u1 > n u4 u9",
@@ -63,19 +63,19 @@ fn a_suffix(rt: HostRuntime) -> Result<(), Fail> {
         "n n | | u1 > u2 n u5 u9",
         "n u1 | n | > u3 n u5 u9",
     ];
-    assert_candidates(&rt, rt.alloc(), "n | n | u1 > u2 n u5 u9", &expected)?;
+    assert_shrink_candidates(&rt, rt.alloc(), "n | n | u1 > u2 n u5 u9", &expected)?;
     Ok(())
 }
 
 /// Each variable in a map follows its command.
 #[test]
-fn variables_in_a_map(rt: HostRuntime) -> Result<(), Fail> {
+fn map_variables_follow_their_commands(rt: HostRuntime) -> Result<(), Fail> {
     let expected = [
         "| n | n > u12",
         "n | n | n",
         "n n | | n > u23",
         "n n | n | > u32",
     ];
-    assert_candidates(&rt, rt.alloc(), "n | n | n > u23", &expected)?;
+    assert_shrink_candidates(&rt, rt.alloc(), "n | n | n > u23", &expected)?;
     Ok(())
 }

@@ -1,6 +1,6 @@
 //! Cases that are shrunk.
 
-use crate::shrunk::cases::{case_of, is_small};
+use crate::shrunk::cases::{case_of_short_text, is_case_small_enough_to_shrink};
 use pst_case::{Case, Command};
 use pst_shrink::{Attempt, AttemptOutcome, ShrinkEnd, ShrinkFault, Shrunk, shrink};
 use pst_value::Items;
@@ -10,24 +10,29 @@ use std::test::Fail;
 /// Finds a case without commands in prefix and branches not valid, and breaks if a command has operation `a`. It fails
 /// after `fails_after` driven cases.
 #[derive(Drop)]
-struct Breaks {
+struct BrokenByOperationA {
     alloc: Global,
     driven: u64,
     fails_after: u64,
 }
 
-fn has_a(commands: &Items<Command>) -> bool {
+fn has_command_of_operation_a(commands: &Items<Command>) -> bool {
     commands
         .as_slice()
         .iter()
         .any(|command| command.op == b'a' as u32)
 }
 
-fn has_call_of_operation_a(case: &Case) -> bool {
-    has_a(&case.prefix) || case.branches.as_slice().iter().any(|branch| has_a(branch))
+fn has_operation_a_before_suffix(case: &Case) -> bool {
+    has_command_of_operation_a(&case.prefix)
+        || case
+            .branches
+            .as_slice()
+            .iter()
+            .any(|branch| has_command_of_operation_a(branch))
 }
 
-fn is_empty(case: &Case) -> bool {
+fn is_case_empty_before_suffix(case: &Case) -> bool {
     case.prefix.is_empty()
         && case
             .branches
@@ -36,7 +41,7 @@ fn is_empty(case: &Case) -> bool {
             .all(|branch| branch.is_empty())
 }
 
-impl Attempt for Breaks {
+impl Attempt for BrokenByOperationA {
     ghost use Rattle.std.specs.Prelude.{⊤};
 
     type History = u64;
@@ -52,14 +57,14 @@ impl Attempt for Breaks {
     ghost keeps = { λ a b. ⊤ };
 
     fn attempt(&mut self, case: &Case) -> Result<AttemptOutcome<u64>, u64> {
-        if is_empty(case) {
+        if is_case_empty_before_suffix(case) {
             return Ok(AttemptOutcome::NotValid);
         }
         if self.driven == self.fails_after {
             return Err(self.driven);
         }
         self.driven += 1;
-        if has_call_of_operation_a(case) {
+        if has_operation_a_before_suffix(case) {
             Ok(AttemptOutcome::Broke(Items::new(self.alloc), self.driven))
         } else {
             Ok(AttemptOutcome::Held(Items::new(self.alloc)))
@@ -74,16 +79,16 @@ impl Attempt for Breaks {
 }
 
 /// Shrinks a case of two commands that run in parallel, the first of which breaks it.
-fn shrink_two(
+fn shrink_case_of_two_commands(
     alloc: Global,
     limit: u32,
     fails_after: u64,
 ) -> Option<Result<Shrunk<u64>, ShrinkFault<u64>>> {
-    let case = case_of(alloc, "| a | b").ok()?;
-    if !is_small(&case) {
+    let case = case_of_short_text(alloc, "| a | b").ok()?;
+    if !is_case_small_enough_to_shrink(&case) {
         return None;
     }
-    let mut attempt = Breaks {
+    let mut attempt = BrokenByOperationA {
         alloc,
         driven: 0,
         fails_after,
@@ -93,7 +98,7 @@ fn shrink_two(
 
 /// The second candidate breaks first, then the move of its command, of which no candidate is valid.
 #[test]
-fn a_limit_stops_the_search(rt: HostRuntime) -> Result<(), Fail> {
+fn a_limit_stops_shrinking_a_case(rt: HostRuntime) -> Result<(), Fail> {
     let rows = [
         (0, 0, 0, ShrinkEnd::Stopped),
         (1, 0, 0, ShrinkEnd::Stopped),
@@ -102,7 +107,7 @@ fn a_limit_stops_the_search(rt: HostRuntime) -> Result<(), Fail> {
         (4, 2, 3, ShrinkEnd::Minimal),
     ];
     for (limit, steps, history, ending) in rows {
-        let shrunk = shrink_two(rt.alloc(), limit, 10).ok_or("no case")??;
+        let shrunk = shrink_case_of_two_commands(rt.alloc(), limit, 10).ok_or("no case")??;
         assert_eq!(rt; shrunk.before.len(), steps, "at {limit}");
         assert_eq!(rt; shrunk.last.history, history, "at {limit}");
         assert!(rt; shrunk.ending == ending, "at {limit}");
@@ -112,7 +117,7 @@ fn a_limit_stops_the_search(rt: HostRuntime) -> Result<(), Fail> {
 
 #[test]
 fn a_fault_of_the_attempt_is_returned(rt: HostRuntime) -> Result<(), Fail> {
-    let fault = shrink_two(rt.alloc(), 10, 2).ok_or("no case")?;
+    let fault = shrink_case_of_two_commands(rt.alloc(), 10, 2).ok_or("no case")?;
     assert!(rt; matches!(fault, Err(ShrinkFault::Attempt(2))));
     Ok(())
 }

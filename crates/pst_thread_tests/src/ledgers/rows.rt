@@ -2,12 +2,15 @@
 ghost use Rattle.std.specs.Prelude.{◌≡◌, None};
 
 use crate::ledgers::notes::NumberRecord;
-use pst_ledger::{Book, Call, Cause, CloseFault, Entry, Ledger, LedgerFault, Reply, Seat, replay};
+use pst_ledger::{
+    Book, BookCall, BookReply, Cause, CloseFault, Entry, Ledger, LedgerFault, Seat,
+    make_calls_and_add_replies,
+};
 use std::process::Abort;
 use std::test::Fail;
 
 #[test]
-fn book_of_three_trials(rt: HostRuntime) -> Result<(), Fail> {
+fn a_book_records_three_trials(rt: HostRuntime) -> Result<(), Fail> {
     let mut book = Book::<NumberRecord>::open(rt.alloc(), 3, 2)?;
     assert!(rt; book.claim(0) == Some(0));
     assert!(rt; book.claim(1) == Some(1));
@@ -27,7 +30,7 @@ fn book_of_three_trials(rt: HostRuntime) -> Result<(), Fail> {
 }
 
 #[test]
-fn ledger_of_one_seat(rt: HostRuntime) -> Result<(), Fail> {
+fn a_ledger_serves_one_seat(rt: HostRuntime) -> Result<(), Fail> {
     let (ledger, mut seats) = Ledger::<NumberRecord>::open(rt.alloc(), 2, 1)?;
     let mut seat = seats.pop().expect(&rt, "a seat");
     assert!(rt; ledger.claim(&mut seat) == Some(0));
@@ -57,7 +60,7 @@ fn ledger_of_one_seat(rt: HostRuntime) -> Result<(), Fail> {
 }
 
 #[test]
-fn ledger_with_a_missing_seat(rt: HostRuntime) -> Result<(), Fail> {
+fn closing_a_ledger_needs_every_seat(rt: HostRuntime) -> Result<(), Fail> {
     let (ledger, mut seats) = Ledger::<NumberRecord>::open(rt.alloc(), 2, 2)?;
     let mut second = seats.pop().expect(&rt, "a seat");
     let Err((ledger, seats, CloseFault::MissingSeat)) = ledger.close(seats) else {
@@ -69,7 +72,7 @@ fn ledger_with_a_missing_seat(rt: HostRuntime) -> Result<(), Fail> {
 }
 
 /// The calls of two seats on a ledger of two trials. Each answer is the one that a book gives.
-fn call_from_two_seats<A: Abort>(
+fn assert_ledger_answers_two_seats<A: Abort>(
     rt: &A,
     ledger: &Ledger<NumberRecord>,
     mut first: Seat<NumberRecord>,
@@ -104,7 +107,7 @@ fn book_and_ledger_answer_alike(rt: HostRuntime) -> Result<(), Fail> {
     let (ledger, mut seats) = Ledger::<NumberRecord>::open(rt.alloc(), 2, 2)?;
     let second = seats.pop().expect(&rt, "a seat");
     let first = seats.pop().expect(&rt, "a seat");
-    let (first, second) = call_from_two_seats(&rt, &ledger, first, second);
+    let (first, second) = assert_ledger_answers_two_seats(&rt, &ledger, first, second);
     seats.push(second)?;
     seats.push(first)?;
     let Ok(closed) = ledger.close(seats) else {
@@ -119,20 +122,20 @@ fn book_and_ledger_answer_alike(rt: HostRuntime) -> Result<(), Fail> {
 }
 
 #[test]
-fn replies_to_a_list_of_calls(rt: HostRuntime) -> Result<(), Fail> {
+fn a_book_replies_to_replayed_calls(rt: HostRuntime) -> Result<(), Fail> {
     let mut calls = Vec::new(rt.alloc());
-    calls.push(Call::Deposit(0, NumberRecord(0)))?;
-    calls.push(Call::Claim(0))?;
-    calls.push(Call::Lose(0, 0, Cause::NoMemory))?;
-    calls.push(Call::Claim(0))?;
+    calls.push(BookCall::Deposit(0, NumberRecord(0)))?;
+    calls.push(BookCall::Claim(0))?;
+    calls.push(BookCall::Lose(0, 0, Cause::NoMemory))?;
+    calls.push(BookCall::Claim(0))?;
     let mut replies = Vec::with_capacity(rt.alloc(), 4)?;
     let mut book = Book::<NumberRecord>::open(rt.alloc(), 1, 1)?;
-    replay(&mut book, calls, &mut replies);
+    make_calls_and_add_replies(&mut book, calls, &mut replies);
     let expected = [
-        Reply::Refused(LedgerFault::NotYours),
-        Reply::Granted(0),
-        Reply::Accepted,
-        Reply::NoneLeft,
+        BookReply::Refused(LedgerFault::NotYours),
+        BookReply::Granted(0),
+        BookReply::Accepted,
+        BookReply::NoneLeft,
     ];
     assert!(rt; replies.as_slice() == expected.as_slice());
     Ok(())

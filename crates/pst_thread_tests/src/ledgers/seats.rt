@@ -7,7 +7,7 @@ use std::alloc::{AllocError, Global};
 use std::test::Fail;
 
 /// Closes a ledger with three seats, which come back in this order.
-fn close_with(
+fn close_ledger_with_seats(
     alloc: Global,
     ledger: Ledger<NumberRecord>,
     first: Seat<NumberRecord>,
@@ -26,7 +26,7 @@ fn close_with(
 }
 
 /// Closes a ledger with three seats, in the order of that number from 0 to 5.
-fn close_in_order(
+fn close_ledger_in_seat_order(
     alloc: Global,
     order: u8,
     ledger: Ledger<NumberRecord>,
@@ -39,19 +39,19 @@ fn close_in_order(
     requires third { third.table ≡ ledger.table }
 {
     match order {
-        0 => close_with(alloc, ledger, first, second, third),
-        1 => close_with(alloc, ledger, first, third, second),
-        2 => close_with(alloc, ledger, second, first, third),
-        3 => close_with(alloc, ledger, second, third, first),
-        4 => close_with(alloc, ledger, third, first, second),
-        _ => close_with(alloc, ledger, third, second, first),
+        0 => close_ledger_with_seats(alloc, ledger, first, second, third),
+        1 => close_ledger_with_seats(alloc, ledger, first, third, second),
+        2 => close_ledger_with_seats(alloc, ledger, second, first, third),
+        3 => close_ledger_with_seats(alloc, ledger, second, third, first),
+        4 => close_ledger_with_seats(alloc, ledger, third, first, second),
+        _ => close_ledger_with_seats(alloc, ledger, third, second, first),
     }
 }
 
 /// Closes a ledger of three numbers. The first seat ends its own and claims twice more, the second loses its
 /// own, and the third still holds its own. `order` says in which order the seats come back. `None` if a call
 /// answers otherwise.
-fn ledger_used_and_closed_in_order(
+fn use_and_close_ledger_in_order(
     alloc: Global,
     order: u8,
 ) -> Result<Option<Closed<NumberRecord>>, AllocError> {
@@ -85,7 +85,7 @@ fn ledger_used_and_closed_in_order(
     if ledger.claim(&mut first).is_some() {
         return Ok(None);
     }
-    close_in_order(alloc, order, ledger, first, second, third)
+    close_ledger_in_seat_order(alloc, order, ledger, first, second, third)
 }
 
 #[test]
@@ -96,7 +96,7 @@ fn seats_come_back_in_any_order(rt: HostRuntime) -> Result<(), Fail> {
         Entry::Held,
     ];
     for order in 0..6u8 {
-        let Some(closed) = ledger_used_and_closed_in_order(rt.alloc(), order)? else {
+        let Some(closed) = use_and_close_ledger_in_order(rt.alloc(), order)? else {
             return Err(Fail::new("a call of a seat has another answer"));
         };
         assert!(rt; closed.entries() == expected.as_slice(), "in order {order}");

@@ -8,7 +8,7 @@ use std::test::Fail;
 use std::thread;
 
 /// Claims until there is nothing left, and deposits a note for each number.
-fn drain<R: Wait>(
+fn claim_and_deposit_until_none_left<R: Wait>(
     rt: &R,
     ledger: &Ledger<NumberRecord>,
     mut seat: Seat<NumberRecord>,
@@ -39,7 +39,7 @@ fn sixteen_threads_draw_each_number_once(rt: HostRuntime) -> Result<(), Fail> {
         &|seat: Seat<NumberRecord>|
             requires { (seat.table ≡ shared.now.table) × (seat.held ≡ None) }
             ensures { result.table ≡ shared.entry.now.table }
-        { drain(&rt, shared, seat) },
+        { claim_and_deposit_until_none_left(&rt, shared, seat) },
     )?;
     assert!(rt; back.len() == 16);
     let Ok(closed) = ledger.close(back) else {

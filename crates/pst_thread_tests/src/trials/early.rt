@@ -1,6 +1,6 @@
 //! Campaigns that end before all their trials have run.
 
-use crate::trials::plans::plan_of;
+use crate::trials::plans::plan_of_model_text;
 use pst_campaign::{EarlyStop, campaign_until};
 use pst_ledger::Entry;
 use pst_samples::Stuck;
@@ -15,7 +15,7 @@ use std::thread::Threads;
 
 /// How many of twenty numbers have a record, and how many are undrawn, after a campaign with one worker on the system that
 /// answers 0: each case with a call fails there.
-fn count_done_and_undrawn_trials<R: Threads + Wait + Sync>(
+fn run_campaign_counting_done_and_undrawn<R: Threads + Wait + Sync>(
     rt: &R,
     alloc: Global,
     ending: &EarlyStop,
@@ -26,7 +26,7 @@ fn count_done_and_undrawn_trials<R: Threads + Wait + Sync>(
         repeats: 1,
         ..Settings::default()
     };
-    let plan = plan_of(alloc, COUNTER, settings)?;
+    let plan = plan_of_model_text(alloc, COUNTER, settings)?;
     let stuck: BoxedSystem = Box::new(alloc, Stuck).ok()?;
     let mut systems = Vec::new(alloc);
     systems.push(stuck).ok()?;
@@ -47,7 +47,7 @@ fn count_done_and_undrawn_trials<R: Threads + Wait + Sync>(
 fn a_campaign_ends_with_its_third_failure(rt: HostRuntime) -> Result<(), Fail> {
     let ending = EarlyStop::new(Some(3), None);
     assert_eq!(rt;
-        count_done_and_undrawn_trials(&rt, rt.alloc(), &ending),
+        run_campaign_counting_done_and_undrawn(&rt, rt.alloc(), &ending),
         Some((3, 17))
     );
     Ok(())
@@ -57,20 +57,26 @@ fn a_campaign_ends_with_its_third_failure(rt: HostRuntime) -> Result<(), Fail> {
 fn a_campaign_without_a_limit_runs_all_trials(rt: HostRuntime) -> Result<(), Fail> {
     let ending = EarlyStop::new(None, None);
     assert_eq!(rt;
-        count_done_and_undrawn_trials(&rt, rt.alloc(), &ending),
+        run_campaign_counting_done_and_undrawn(&rt, rt.alloc(), &ending),
         Some((20, 0))
     );
     Ok(())
 }
 
 /// The counts of a campaign that is interrupted before its first trial.
-fn interrupted_counts<R: Threads + Wait + Sync>(rt: &R, alloc: Global) -> Option<(usize, usize)> {
+fn run_interrupted_campaign_counting_trials<R: Threads + Wait + Sync>(
+    rt: &R,
+    alloc: Global,
+) -> Option<(usize, usize)> {
     let interrupted = Arc::new(alloc, AtomicBool::new(true)).ok()?;
-    count_done_and_undrawn_trials(rt, alloc, &EarlyStop::new(None, Some(interrupted)))
+    run_campaign_counting_done_and_undrawn(rt, alloc, &EarlyStop::new(None, Some(interrupted)))
 }
 
 #[test]
 fn an_interrupted_campaign_draws_no_number(rt: HostRuntime) -> Result<(), Fail> {
-    assert_eq!(rt; interrupted_counts(&rt, rt.alloc()), Some((0, 20)));
+    assert_eq!(rt;
+        run_interrupted_campaign_counting_trials(&rt, rt.alloc()),
+        Some((0, 20))
+    );
     Ok(())
 }

@@ -1,6 +1,8 @@
 //! Trials that pass, that generate no case, and that a reset ends.
 
-use crate::trials::plans::{one_command, plan_of, record_of};
+use crate::trials::plans::{
+    plan_of_model_text, run_trial_of_model_text, settings_of_one_command_driven_once,
+};
 use pst_eval::Callback;
 use pst_samples::Counter;
 use pst_system::BoxedSystem;
@@ -21,7 +23,7 @@ fn suffix_and_run_counts_if_passed(record: &Record) -> Option<(usize, usize)> {
 }
 
 /// What `suffix_and_run_counts_if_passed` returns for trial 3 of a counter with a suffix of two commands.
-fn passed_counter<R: Threads + Wait>(
+fn run_trial_counting_suffix_and_runs<R: Threads + Wait>(
     rt: &R,
     alloc: Global,
     counter: &mut BoxedSystem,
@@ -30,50 +32,61 @@ fn passed_counter<R: Threads + Wait>(
         suffix: 2,
         ..Settings::default()
     };
-    suffix_and_run_counts_if_passed(&record_of(rt, alloc, COUNTER, settings, 3, counter)?)
+    suffix_and_run_counts_if_passed(&run_trial_of_model_text(
+        rt, alloc, COUNTER, settings, 3, counter,
+    )?)
 }
 
 #[test]
-fn a_counter_passes(rt: HostRuntime) -> Result<(), Fail> {
+fn a_trial_on_a_counter_passes(rt: HostRuntime) -> Result<(), Fail> {
     let alloc = rt.alloc();
     let mut counter: BoxedSystem = Box::new(alloc, Counter::new(rt))?;
-    assert!(rt; passed_counter(&rt, alloc, &mut counter) == Some((2, 5)));
+    assert!(rt; run_trial_counting_suffix_and_runs(&rt, alloc, &mut counter) == Some((2, 5)));
     Ok(())
 }
 
 /// The trial's number, and the command's number and the callback that faults, if no case is generated.
-fn genfault_place_if_faulted(record: &Record) -> Option<(u64, u32, Callback)> {
+fn trial_and_place_if_generation_faulted(record: &Record) -> Option<(u64, u32, Callback)> {
     match record.outcome() {
         TrialOutcome::GenFaulted(place) => Some((record.number(), place.command, place.callback)),
         TrialOutcome::Passed { .. } | TrialOutcome::Failed { .. } => None,
     }
 }
 
-/// What `genfault_place_if_faulted` returns for trial 7 of `TOP`, a number that cannot grow.
-fn faulted_top<R: Threads + Wait>(
+/// What `trial_and_place_if_generation_faulted` returns for trial 7 of `TOP`, a number that cannot grow.
+fn run_trial_for_generation_fault<R: Threads + Wait>(
     rt: &R,
     alloc: Global,
     system: &mut BoxedSystem,
 ) -> Option<(u64, u32, Callback)> {
-    genfault_place_if_faulted(&record_of(rt, alloc, TOP, Settings::default(), 7, system)?)
+    trial_and_place_if_generation_faulted(&run_trial_of_model_text(
+        rt,
+        alloc,
+        TOP,
+        Settings::default(),
+        7,
+        system,
+    )?)
 }
 
 #[test]
-fn a_callback_faults(rt: HostRuntime) -> Result<(), Fail> {
+fn a_callback_fault_stops_generation(rt: HostRuntime) -> Result<(), Fail> {
     let alloc = rt.alloc();
     let mut system: BoxedSystem = Box::new(alloc, LimitedResets::new(0))?;
-    assert!(rt; faulted_top(&rt, alloc, &mut system) == Some((7, 1, Callback::Next)));
+    assert!(rt;
+        run_trial_for_generation_fault(&rt, alloc, &mut system) == Some((7, 1, Callback::Next))
+    );
     Ok(())
 }
 
 /// The fault of trial 0 of a counter without `get`, if there is one.
-fn fault<R: Threads + Wait>(
+fn run_first_trial_for_fault<R: Threads + Wait>(
     rt: &R,
     alloc: Global,
     settings: Settings,
     system: &mut BoxedSystem,
 ) -> Option<TrialFault> {
-    let plan = plan_of(alloc, ONE, settings)?;
+    let plan = plan_of_model_text(alloc, ONE, settings)?;
     trial(rt, alloc, &plan, 0, system).err()
 }
 
@@ -82,7 +95,10 @@ fn a_refused_reset_ends_a_trial(rt: HostRuntime) -> Result<(), Fail> {
     let alloc = rt.alloc();
     let mut no_reset: BoxedSystem = Box::new(alloc, LimitedResets::new(0))?;
     let settings = Settings::default();
-    assert!(rt; fault(&rt, alloc, settings, &mut no_reset) == Some(TrialFault::ResetFailed));
+    assert!(rt;
+        run_first_trial_for_fault(&rt, alloc, settings, &mut no_reset)
+            == Some(TrialFault::ResetFailed)
+    );
     Ok(())
 }
 
@@ -91,7 +107,10 @@ fn a_refused_reset_ends_a_trial(rt: HostRuntime) -> Result<(), Fail> {
 fn a_refused_second_reset_ends_a_trial(rt: HostRuntime) -> Result<(), Fail> {
     let alloc = rt.alloc();
     let mut second_reset: BoxedSystem = Box::new(alloc, LimitedResets::new(1))?;
-    let settings = one_command();
-    assert!(rt; fault(&rt, alloc, settings, &mut second_reset) == Some(TrialFault::ResetFailed));
+    let settings = settings_of_one_command_driven_once();
+    assert!(rt;
+        run_first_trial_for_fault(&rt, alloc, settings, &mut second_reset)
+            == Some(TrialFault::ResetFailed)
+    );
     Ok(())
 }

@@ -8,7 +8,7 @@ use std::sync::{Arc, Wait};
 use std::thread::Threads;
 
 /// The settings of a script of one command, whose case is driven once.
-pub(crate) fn one_command() -> Settings {
+pub(crate) fn settings_of_one_command_driven_once() -> Settings {
     Settings {
         commands: 1,
         repeats: 1,
@@ -17,7 +17,11 @@ pub(crate) fn one_command() -> Settings {
 }
 
 /// The plan of a model's text, if the settings are in their ranges.
-pub(crate) fn plan_of(alloc: Global, text: &str, settings: Settings) -> Option<Arc<Plan>> {
+pub(crate) fn plan_of_model_text(
+    alloc: Global,
+    text: &str,
+    settings: Settings,
+) -> Option<Arc<Plan>> {
     if !settings.are_in_range() {
         return None;
     }
@@ -27,7 +31,7 @@ pub(crate) fn plan_of(alloc: Global, text: &str, settings: Settings) -> Option<A
 
 /// The record of trial `number` of the plan of a model's text, if the settings are in their ranges and the
 /// trial has a record.
-pub(crate) fn record_of<R: Threads + Wait>(
+pub(crate) fn run_trial_of_model_text<R: Threads + Wait>(
     rt: &R,
     alloc: Global,
     text: &str,
@@ -35,6 +39,6 @@ pub(crate) fn record_of<R: Threads + Wait>(
     number: u64,
     system: &mut BoxedSystem,
 ) -> Option<Record> {
-    let plan = plan_of(alloc, text, settings)?;
+    let plan = plan_of_model_text(alloc, text, settings)?;
     trial(rt, alloc, &plan, number, system).ok()
 }

@@ -1,6 +1,8 @@
 //! Trials whose case is shrunk.
 
-use crate::trials::plans::{one_command, plan_of, record_of};
+use crate::trials::plans::{
+    plan_of_model_text, run_trial_of_model_text, settings_of_one_command_driven_once,
+};
 use pst_case::Case;
 use pst_eval::Plain;
 use pst_gen::valid_case_if_accepted;
@@ -17,7 +19,7 @@ use std::thread::Threads;
 
 /// How many cases were taken while the case of a trial was shrunk, how that ended, and how many commands the
 /// last case has in its suffix.
-fn shrunk(record: &Record) -> Option<(usize, ShrinkEnd, usize)> {
+fn shrink_counts_and_ending_if_failed(record: &Record) -> Option<(usize, ShrinkEnd, usize)> {
     match record.outcome() {
         TrialOutcome::Failed { shrunk, .. } => Some((
             shrunk.before.len(),
@@ -29,13 +31,15 @@ fn shrunk(record: &Record) -> Option<(usize, ShrinkEnd, usize)> {
 }
 
 /// How the case of trial 0 of a counter without `get` is shrunk, on the system that answers 0.
-fn shrunk_on_stuck<R: Threads + Wait>(
+fn run_first_trial_for_shrink_counts<R: Threads + Wait>(
     rt: &R,
     alloc: Global,
     settings: Settings,
     stuck: &mut BoxedSystem,
 ) -> Option<(usize, ShrinkEnd, usize)> {
-    shrunk(&record_of(rt, alloc, ONE, settings, 0, stuck)?)
+    shrink_counts_and_ending_if_failed(&run_trial_of_model_text(
+        rt, alloc, ONE, settings, 0, stuck,
+    )?)
 }
 
 #[test]
@@ -53,17 +57,19 @@ fn the_limit_stops_shrinking(rt: HostRuntime) -> Result<(), Fail> {
             let settings = Settings {
                 branches,
                 limit,
-                ..one_command()
+                ..settings_of_one_command_driven_once()
             };
             let expected = Some((steps, ending, 0));
-            assert!(rt; shrunk_on_stuck(&rt, alloc, settings, &mut stuck) == expected);
+            assert!(rt;
+                run_first_trial_for_shrink_counts(&rt, alloc, settings, &mut stuck) == expected
+            );
         }
     }
     Ok(())
 }
 
 #[test]
-fn a_suffix_is_shrunk(rt: HostRuntime) -> Result<(), Fail> {
+fn shrinking_keeps_a_suffix_command(rt: HostRuntime) -> Result<(), Fail> {
     let alloc = rt.alloc();
     let mut stuck: BoxedSystem = Box::new(alloc, Stuck)?;
     // of two commands in branches and one in the suffix the last stays
@@ -73,12 +79,12 @@ fn a_suffix_is_shrunk(rt: HostRuntime) -> Result<(), Fail> {
         ..Settings::default()
     };
     let expected = Some((2, ShrinkEnd::Minimal, 1));
-    assert!(rt; shrunk_on_stuck(&rt, alloc, settings, &mut stuck) == expected);
+    assert!(rt; run_first_trial_for_shrink_counts(&rt, alloc, settings, &mut stuck) == expected);
     Ok(())
 }
 
 /// How many commands the case has.
-fn size(case: &Case) -> usize {
+fn count_commands_of_case(case: &Case) -> usize {
     let mut size = case.prefix.len().saturating_add(case.suffix.len());
     for branch in case.branches.as_slice() {
         size = size.saturating_add(branch.len());
@@ -87,13 +93,13 @@ fn size(case: &Case) -> usize {
 }
 
 /// Whether the case has the shape of the model and is valid by it.
-fn is_accepted(alloc: Global, typed: &Typed, case: &Case) -> Result<bool, AllocError> {
+fn is_case_accepted(alloc: Global, typed: &Typed, case: &Case) -> Result<bool, AllocError> {
     let accepted = valid_case_if_accepted(&Plain::new(typed), alloc, typed, case.copy(alloc)?)?;
     Ok(accepted.is_some())
 }
 
 /// The sizes of the first case and the last of a trial that fails, and whether the last case is still accepted.
-fn sizes_and_validity_if_failed(
+fn case_sizes_and_validity_if_failed(
     alloc: Global,
     typed: &Typed,
     record: &Record,
@@ -103,15 +109,15 @@ fn sizes_and_validity_if_failed(
     };
     let last = &shrunk.last.case;
     let first = match shrunk.before.as_slice().first() {
-        Some(taken) => size(&taken.case),
-        None => size(last),
+        Some(taken) => count_commands_of_case(&taken.case),
+        None => count_commands_of_case(last),
     };
-    let accepted = is_accepted(alloc, typed, last).ok()?;
-    Some((first, size(last), accepted))
+    let accepted = is_case_accepted(alloc, typed, last).ok()?;
+    Some((first, count_commands_of_case(last), accepted))
 }
 
-/// What `sizes_and_validity_if_failed` returns for trial `number` of a plan.
-fn failure_of<R: Threads + Wait>(
+/// What `case_sizes_and_validity_if_failed` returns for trial `number` of a plan.
+fn run_trial_for_sizes_and_validity<R: Threads + Wait>(
     rt: &R,
     alloc: Global,
     plan: &Arc<Plan>,
@@ -119,11 +125,11 @@ fn failure_of<R: Threads + Wait>(
     system: &mut BoxedSystem,
 ) -> Option<(usize, usize, bool)> {
     let record = trial(rt, alloc, plan, number, system).ok()?;
-    sizes_and_validity_if_failed(alloc, plan.typed(), &record)
+    case_sizes_and_validity_if_failed(alloc, plan.typed(), &record)
 }
 
-/// What `sizes_and_validity_if_failed` returns for the first trial that fails.
-fn first_failure<R: Threads + Wait>(
+/// What `case_sizes_and_validity_if_failed` returns for the first trial that fails.
+fn run_trials_until_failure_for_sizes<R: Threads + Wait>(
     rt: &R,
     alloc: Global,
     system: &mut BoxedSystem,
@@ -132,9 +138,9 @@ fn first_failure<R: Threads + Wait>(
         repeats: 20,
         ..Settings::default()
     };
-    let plan = plan_of(alloc, COUNTER, settings)?;
+    let plan = plan_of_model_text(alloc, COUNTER, settings)?;
     for number in 0..100 {
-        let failure = failure_of(rt, alloc, &plan, number, system);
+        let failure = run_trial_for_sizes_and_validity(rt, alloc, &plan, number, system);
         if failure.is_some() {
             return failure;
         }
@@ -143,10 +149,10 @@ fn first_failure<R: Threads + Wait>(
 }
 
 #[test]
-fn a_race_is_found(rt: HostRuntime) -> Result<(), Fail> {
+fn trials_find_and_shrink_a_race(rt: HostRuntime) -> Result<(), Fail> {
     let alloc = rt.alloc();
     let mut racy: BoxedSystem = Box::new(alloc, Racy::new())?;
-    let failure = first_failure(&rt, alloc, &mut racy);
+    let failure = run_trials_until_failure_for_sizes(&rt, alloc, &mut racy);
     let Some((first, last, accepted)) = failure else {
         return Err(Fail::new("no trial found the race"));
     };
@@ -155,20 +161,20 @@ fn a_race_is_found(rt: HostRuntime) -> Result<(), Fail> {
     Ok(())
 }
 
-/// What `sizes_and_validity_if_failed` returns for trial 0 of a counter on the system that answers 0, so that every
+/// What `case_sizes_and_validity_if_failed` returns for trial 0 of a counter on the system that answers 0, so that every
 /// `inc` is wrong.
-fn failure_on_stuck<R: Threads + Wait>(
+fn run_first_counter_trial_for_sizes<R: Threads + Wait>(
     rt: &R,
     alloc: Global,
     settings: Settings,
     stuck: &mut BoxedSystem,
 ) -> Option<(usize, usize, bool)> {
-    let plan = plan_of(alloc, COUNTER, settings)?;
-    failure_of(rt, alloc, &plan, 0, stuck)
+    let plan = plan_of_model_text(alloc, COUNTER, settings)?;
+    run_trial_for_sizes_and_validity(rt, alloc, &plan, 0, stuck)
 }
 
 #[test]
-fn one_command_is_left(rt: HostRuntime) -> Result<(), Fail> {
+fn shrinking_leaves_one_command(rt: HostRuntime) -> Result<(), Fail> {
     let alloc = rt.alloc();
     let mut stuck: BoxedSystem = Box::new(alloc, Stuck)?;
     for (commands, first) in [(8, 8), (16, 16)] {
@@ -177,7 +183,9 @@ fn one_command_is_left(rt: HostRuntime) -> Result<(), Fail> {
             ..Settings::default()
         };
         let expected = Some((first, 1, true));
-        assert!(rt; failure_on_stuck(&rt, alloc, settings, &mut stuck) == expected);
+        assert!(rt;
+            run_first_counter_trial_for_sizes(&rt, alloc, settings, &mut stuck) == expected
+        );
     }
     Ok(())
 }

@@ -2,38 +2,38 @@
 ghost use Rattle.std.specs.Prelude.{◌≡◌, None};
 ghost use Rattle.std.specs.Arc.{arc_value};
 
-use crate::trials::plans::plan_of;
+use crate::trials::plans::plan_of_model_text;
 use pst_campaign::run_trials_until_none_is_left;
 use pst_ledger::{Cause, Closed, Entry, Ledger};
 use pst_samples::Stuck;
 use pst_system::BoxedSystem;
 use pst_tests::support::ONE;
 use pst_tests::systems::LimitedResets;
-use pst_trial::{Plan, Record, Settings, may_share_records, trial};
+use pst_trial::{Plan, Record, Settings, prove_records_are_send_and_sync, trial};
 use std::alloc::Global;
 use std::sync::{Arc, Wait};
 use std::test::Fail;
 use std::thread::Threads;
 
 /// A plan of twelve trials, each driven once.
-fn twelve(alloc: Global) -> Option<Arc<Plan>> {
+fn plan_of_twelve_trials(alloc: Global) -> Option<Arc<Plan>> {
     let settings = Settings {
         trials: 12,
         commands: 3,
         repeats: 1,
         ..Settings::default()
     };
-    plan_of(alloc, ONE, settings)
+    plan_of_model_text(alloc, ONE, settings)
 }
 
 /// What became of the trials of a plan when one worker has done them all on a system.
-fn closed_by_one<R: Threads + Wait + Sync>(
+fn run_all_trials_by_one_worker<R: Threads + Wait + Sync>(
     rt: &R,
     alloc: Global,
     plan: &Arc<Plan>,
     mut system: BoxedSystem,
 ) -> Option<Closed<Record>> {
-    may_share_records();
+    prove_records_are_send_and_sync();
     let trials = plan.settings().trials as u64;
     let (ledger, mut seats) = Ledger::<Record>::open(alloc, trials, 1).ok()?;
     let mut seat = seats.pop()?;
@@ -43,7 +43,7 @@ fn closed_by_one<R: Threads + Wait + Sync>(
 }
 
 /// Whether an entry is the record of the number, with the outcome of its trial alone on the system that answers 0.
-fn is_record_on_stuck<R: Threads + Wait>(
+fn is_record_same_when_run_alone<R: Threads + Wait>(
     rt: &R,
     alloc: Global,
     plan: &Arc<Plan>,
@@ -61,13 +61,16 @@ fn is_record_on_stuck<R: Threads + Wait>(
 }
 
 /// How many of the twelve entries are such records, when the worker has the system that answers 0.
-fn records_on_stuck<R: Threads + Wait + Sync>(rt: &R, alloc: Global) -> Option<usize> {
-    let plan = twelve(alloc)?;
+fn run_worker_and_count_right_records<R: Threads + Wait + Sync>(
+    rt: &R,
+    alloc: Global,
+) -> Option<usize> {
+    let plan = plan_of_twelve_trials(alloc)?;
     let stuck: BoxedSystem = Box::new(alloc, Stuck).ok()?;
-    let closed = closed_by_one(rt, alloc, &plan, stuck)?;
+    let closed = run_all_trials_by_one_worker(rt, alloc, &plan, stuck)?;
     let mut count: usize = 0;
     for (number, entry) in closed.entries().iter().enumerate() {
-        if is_record_on_stuck(rt, alloc, &plan, number as u64, entry)? {
+        if is_record_same_when_run_alone(rt, alloc, &plan, number as u64, entry)? {
             count = count.saturating_add(1);
         }
     }
@@ -76,14 +79,20 @@ fn records_on_stuck<R: Threads + Wait + Sync>(rt: &R, alloc: Global) -> Option<u
 
 #[test]
 fn a_worker_deposits_each_record(rt: HostRuntime) -> Result<(), Fail> {
-    assert_eq!(rt; records_on_stuck(&rt, rt.alloc()), Some(12));
+    assert_eq!(rt;
+        run_worker_and_count_right_records(&rt, rt.alloc()),
+        Some(12)
+    );
     Ok(())
 }
 
 /// How many of the twelve entries are lost for a refused reset, when the worker has a system that refuses every reset.
-fn lost_without_resets<R: Threads + Wait + Sync>(rt: &R, alloc: Global) -> Option<usize> {
-    let plan = twelve(alloc)?;
-    let closed = closed_by_one(
+fn run_trials_without_resets_counting_lost<R: Threads + Wait + Sync>(
+    rt: &R,
+    alloc: Global,
+) -> Option<usize> {
+    let plan = plan_of_twelve_trials(alloc)?;
+    let closed = run_all_trials_by_one_worker(
         rt,
         alloc,
         &plan,
@@ -98,7 +107,10 @@ fn lost_without_resets<R: Threads + Wait + Sync>(rt: &R, alloc: Global) -> Optio
 }
 
 #[test]
-fn a_worker_gives_up_each_number(rt: HostRuntime) -> Result<(), Fail> {
-    assert_eq!(rt; lost_without_resets(&rt, rt.alloc()), Some(12));
+fn trials_without_resets_are_lost(rt: HostRuntime) -> Result<(), Fail> {
+    assert_eq!(rt;
+        run_trials_without_resets_counting_lost(&rt, rt.alloc()),
+        Some(12)
+    );
     Ok(())
 }

@@ -61,44 +61,48 @@ fn kinds_of_nodes(
 }
 
 /// Whether `ref` or `call` is in the type of a node.
-pub fn node_holds_ref(alloc: Global, nodes: &Nodes, number: usize) -> Result<bool, AllocError>
+pub fn node_holds_ref_or_call(
+    alloc: Global,
+    nodes: &Nodes,
+    number: usize,
+) -> Result<bool, AllocError>
     requires { number < length nodes.now }
-    ensures { IfOk result (λ held. held ≡ kinds.holds_ref (type_at nodes.now number)) }
+    ensures { IfOk result (λ held. held ≡ kinds.holds_ref_or_call (type_at nodes.now number)) }
 {
     let mut held = Items::new(alloc);
     for at in 0..nodes.len() {
-        let holds = node_holds_ref_by_parts(nodes.get(at), held.as_slice());
+        let holds = holds_ref_or_call_by_parts(nodes.get(at), held.as_slice());
         held.push(holds)?;
     }
-    Ok(part_holds_ref(held.as_slice(), number))
+    Ok(part_holds_ref_or_call(held.as_slice(), number))
 }
 
 /// Whether a node holds a reference or a call, by what is known of the nodes before it.
-fn node_holds_ref_by_parts(node: &Node, held: &[bool]) -> bool
+fn holds_ref_or_call_by_parts(node: &Node, held: &[bool]) -> bool
     requires { IsBelow (length held.now) node.now }
     ensures { result ≡ spec.node_holds held.now node.now }
 {
     match node {
         Node::Int | Node::Bool | Node::Text => false,
-        Node::Tuple(parts) => any_part_holds_ref(parts.as_slice(), held),
-        Node::List(part) | Node::Map(_, part) => part_holds_ref(held, *part),
+        Node::Tuple(parts) => any_part_holds_ref_or_call(parts.as_slice(), held),
+        Node::List(part) | Node::Map(_, part) => part_holds_ref_or_call(held, *part),
         Node::Ref(_) | Node::Call => true,
     }
 }
 
-fn any_part_holds_ref(parts: &[usize], held: &[bool]) -> bool
+fn any_part_holds_ref_or_call(parts: &[usize], held: &[bool]) -> bool
     requires { AreBelow (length held.now) parts.now }
     ensures { result ≡ list_any (spec.held_at held.now) parts.now }
 {
     for part in parts {
-        if part_holds_ref(held, *part) {
+        if part_holds_ref_or_call(held, *part) {
             return true;
         }
     }
     false
 }
 
-fn part_holds_ref(held: &[bool], part: usize) -> bool
+fn part_holds_ref_or_call(held: &[bool], part: usize) -> bool
     requires { part < length held.now }
     ensures { result ≡ spec.held_at held.now part }
 {

@@ -8,7 +8,7 @@ ghost use Rattle.pst_typing.specs.Nodes.{type_at};
 ghost use Rattle.pst_value.specs.Equality.{same_ty};
 ghost use Rattle.pst_value.specs.declared.ty.Ty.TheVariants as ty;
 
-use crate::kinds::form::{KindForm, form_of, node_holds_ref};
+use crate::kinds::form::{KindForm, form_of, node_holds_ref_or_call};
 use crate::kinds::node::Node;
 use crate::kinds::nodes::Nodes;
 use pst_value::{Items, KeyTy, Ty};
@@ -73,7 +73,7 @@ impl Kind {
     fn add_to(&self, alloc: Global, nodes: &mut Nodes) -> Result<usize, AllocError>
         ensures { IfOk result (λ number. IsAdded nodes.old nodes.new number self.now) }
     {
-        nodes.take_over(alloc, self.nodes.as_ref(), self.root)
+        nodes.copy_type_from_nodes(alloc, self.nodes.as_ref(), self.root)
     }
 
     /// The kind of a node that is shared.
@@ -137,7 +137,7 @@ impl Kind {
         let mut nodes = Nodes::new(alloc);
         let first = self.add_to(alloc, &mut nodes)?;
         let second = other.add_to(alloc, &mut nodes)?;
-        Ok(nodes.are_same(first, second))
+        Ok(nodes.are_of_same_type(first, second))
     }
 
     /// The form of the type.
@@ -148,10 +148,10 @@ impl Kind {
     }
 
     /// Whether `ref` or `call` is in the type.
-    pub fn holds_ref(&self, alloc: Global) -> Result<bool, AllocError>
-        ensures { IfOk result (λ held. held ≡ kinds.holds_ref self.now) }
+    pub fn holds_ref_or_call(&self, alloc: Global) -> Result<bool, AllocError>
+        ensures { IfOk result (λ held. held ≡ kinds.holds_ref_or_call self.now) }
     {
-        node_holds_ref(alloc, self.nodes.as_ref(), self.root)
+        node_holds_ref_or_call(alloc, self.nodes.as_ref(), self.root)
     }
 
     /// Whether this is the kind of a type.

@@ -73,7 +73,7 @@ impl Nodes {
     }
 
     /// Whether two numbers are of nodes of one type.
-    pub fn are_same(&self, first: usize, second: usize) -> bool
+    pub fn are_of_same_type(&self, first: usize, second: usize) -> bool
         requires first { first < length self.now }
         requires second { second < length self.now }
         ensures { result ≡ same_ty (type_at self.now first) (type_at self.now second) }
@@ -90,7 +90,7 @@ impl Nodes {
     }
 
     /// Copies the type of node `root` of `others`, and returns its number.
-    pub fn take_over(
+    pub fn copy_type_from_nodes(
         &mut self,
         alloc: Global,
         others: &Nodes,
@@ -102,7 +102,7 @@ impl Nodes {
         let _count = others.len();
         let mut places = Items::new(alloc);
         for at in 0..root + 1 {
-            let node = renumbered(alloc, others.get(at), places.as_slice())?;
+            let node = node_with_renumbered_parts(alloc, others.get(at), places.as_slice())?;
             let place = self.add(node)?;
             places.push(place)?;
         }
@@ -111,7 +111,11 @@ impl Nodes {
 }
 
 /// A copy of a node whose parts have other numbers.
-fn renumbered(alloc: Global, node: &Node, places: &[usize]) -> Result<Node, AllocError>
+fn node_with_renumbered_parts(
+    alloc: Global,
+    node: &Node,
+    places: &[usize],
+) -> Result<Node, AllocError>
     requires { IsBelow (length places.now) node.now }
     ensures { IfOk result (λ copy. copy ≡ spec.renumbered places.now node.now) }
 {
@@ -119,7 +123,7 @@ fn renumbered(alloc: Global, node: &Node, places: &[usize]) -> Result<Node, Allo
         Node::Int => Ok(Node::Int),
         Node::Bool => Ok(Node::Bool),
         Node::Text => Ok(Node::Text),
-        Node::Tuple(parts) => Ok(Node::Tuple(all_renumbered(alloc, parts.as_slice(), places)?)),
+        Node::Tuple(parts) => Ok(Node::Tuple(renumbered_parts(alloc, parts.as_slice(), places)?)),
         Node::List(part) => Ok(Node::List(new_number_of_part(places, *part))),
         Node::Map(keys, part) => Ok(Node::Map(*keys, new_number_of_part(places, *part))),
         Node::Ref(part) => Ok(Node::Ref(new_number_of_part(places, *part))),
@@ -136,7 +140,7 @@ fn new_number_of_part(places: &[usize], part: usize) -> usize
 }
 
 /// Numbers, each in the place of another.
-fn all_renumbered(
+fn renumbered_parts(
     alloc: Global,
     parts: &[usize],
     places: &[usize],

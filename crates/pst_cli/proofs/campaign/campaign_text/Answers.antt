@@ -3,4 +3,4 @@ use Rattle.pst_cli.proofs.campaign.campaign_text.Goals as goal
 
 pub returns : goal.returns
 returns g c =
-    prints_so _ _ (whole _ _ _ c.args.settings c.args.systems.items c.args.input.now) _ _ _ _ c.run_campaign_and_take_notes.ensures
+    prints_so _ _ (whole _ _ _ c.args.settings c.args.systems.items c.args.input.now) _ _ _ _ c.run_and_report_campaign_taking_notes.ensures

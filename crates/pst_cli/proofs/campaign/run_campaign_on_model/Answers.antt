@@ -5,8 +5,8 @@ use Rattle.pst_report.specs.InOrder.{AreOf}
 use Rattle.pst_trial.specs.PlanView.{PlanView}
 use Rattle.pst_cli.proofs.campaign.run_campaign_on_model.Goals as goal
 
-pub output_of_campaign_report-requires-clause-records : goal.output_of_campaign_report-requires-clause-records
-output_of_campaign_report-requires-clause-records g c =
+pub note_results_and_report_campaign-requires-clause-records : goal.note_results_and_report_campaign-requires-clause-records
+note_results_and_report_campaign-requires-clause-records g c =
     let Of : PlanView → Type 0 = λ p. AreOf p 0 c.in-Ok.closed in
     let same : arc_value c.in_ok-clone.field-0 ≡ c.deref.result.now =
     c.in_ok-clone.ensures.cases ∙ sym c.deref.ensures in
@@ -18,8 +18,8 @@ returns-in-Ok g c =
     c.in_ok-clone.ensures.cases ∙ sym c.deref.ensures in
     reported_output _ _ c.args.settings c.args.systems.items c.args.typed c.deref.result.now
     (arc_value c.in_ok-clone.field-0) c.in-Ok.closed c.in-Ok.ensures.number (c.deref.ensures ∙ c.in_ok-plan.ensures) same
-    c.in-Ok.ensures.count c.in-Ok.ensures.given c.output_of_campaign_report.result c.output_of_campaign_report.ensures.text
-    c.output_of_campaign_report.ensures.status
+    c.in-Ok.ensures.count c.in-Ok.ensures.given c.note_results_and_report_campaign.result c.note_results_and_report_campaign.ensures.text
+    c.note_results_and_report_campaign.ensures.status
 
 pub returns : goal.returns
 returns g c =

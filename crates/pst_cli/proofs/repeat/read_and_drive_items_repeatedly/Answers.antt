@@ -32,7 +32,7 @@ returns-in-Ok-2-clause-output g c =
     let so : (o : Output) → AreSo o → IsSo o =
     λ o h. let OfRuns : List Run → Type 0 = λ rs. ReportsAll m (s.answers c.args.system.now.value) (s.fails c.args.system.now.value) (s.reset_fails c.args.system.now.value) c.args.repeats rs o.text.items o.status in
     reported m trees runs (rw c.in-Ok.is at c.in_ok-file.ensures) (ap (runs_of m) items ∙ read) (subst OfRuns c.as_slice-in-Ok-2.ensures.value h) in
-    if_ok_then AreSo IsSo so c.drive_and_join_all_reports.result c.drive_and_join_all_reports.ensures.reported
+    if_ok_then AreSo IsSo so c.drive_items_repeatedly_and_join_reports.result c.drive_items_repeatedly_and_join_reports.ensures.reported
 
 pub returns-clause-output : goal.returns-clause-output
 returns-clause-output g c =

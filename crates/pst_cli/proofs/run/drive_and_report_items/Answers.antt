@@ -8,8 +8,8 @@ use Rattle.pst_cli.specs.declared.status.Status.{Status}
 use Rattle.pst_cli.specs.declared.status.Status.TheVariants.{Accepted}
 use Rattle.pst_cli.proofs.run.drive_and_report_items.Goals as goal
 
-pub drive_and_report_item-requires : goal.drive_and_report_item-requires
-drive_and_report_item-requires g c =
+pub drive_item_once_or_report_invalid-requires : goal.drive_item_once_or_report_invalid-requires
+drive_item_once_or_report_invalid-requires g c =
     let l = lawful_here c.args.compiled.now c.args.runs.now c.loop-index.index c.index-runs-index.result c.loop-index-test.true c.index-runs-index.is c.requires in
     record { model = l.model }
 
@@ -33,7 +33,7 @@ loop-index-preserved g c =
     record {
       completes = subst OfStatus (sym c.or_worse-status.ensures) (subst OfText (sym text)
           (one_more m A F R runs 1 i Accepted c.loop-index.status output.status so_far output.text.items run c.loop-index-test.true c.index-runs-index.is report c.loop-index.invariant.completes));
-      kept = kept_on c.drive_and_report_item.ensures.kept c.loop-index.invariant.kept;
+      kept = kept_on c.drive_item_once_or_report_invalid.ensures.kept c.loop-index.invariant.kept;
     }
 
 pub returns-clause-reported : goal.returns-clause-reported

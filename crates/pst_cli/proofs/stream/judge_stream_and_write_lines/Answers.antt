@@ -25,20 +25,20 @@ returns-in-Err g c =
 pub returns-in-Err-write_item_result_lines_of_block : goal.returns-in-Err-write_item_result_lines_of_block
 returns-in-Err-write_item_result_lines_of_block g c =
     let come = c.loop-turn.invariant.come in
-    stops_in _ _ _ _ _ _ _ _ come _ _ _ _ _ _ c.in-Err-write_item_result_lines_of_block.cut (c.in-Ok-read_and_judge_block.ensures.block _ come.kept_line)
+    stops_in _ _ _ _ _ _ _ _ come _ _ _ _ _ _ c.in-Err-write_item_result_lines_of_block.cut (c.in-Ok-read_once_and_judge_ended_lines.ensures.block _ come.kept_line)
     (rw c.as_slice-answers.ensures.value at c.in-Err-write_item_result_lines_of_block.ensures)
 
 pub returns-then-block : goal.returns-then-block
 returns-then-block g c =
     let come = c.loop-turn.invariant.come in
-    let block = rw c.if-block.true at c.in-Ok-read_and_judge_block.ensures.block _ come.kept_line in
+    let block = rw c.if-block.true at c.in-Ok-read_once_and_judge_ended_lines.ensures.block _ come.kept_line in
     let done = rw c.as_slice-answers.ensures.value at c.in-Ok-write_item_result_lines_of_block.ensures in
     ends _ _ _ _ _ _ _ _ come _ _ _ _ _ _ block done.0 done.1
 
 pub loop-turn-preserved : goal.loop-turn-preserved
 loop-turn-preserved g c =
     let come = c.loop-turn.invariant.come in
-    let block = rw c.if-block.false at c.in-Ok-read_and_judge_block.ensures.block _ come.kept_line in
+    let block = rw c.if-block.false at c.in-Ok-read_once_and_judge_ended_lines.ensures.block _ come.kept_line in
     let done = rw c.as_slice-answers.ensures.value at c.in-Ok-write_item_result_lines_of_block.ensures in
     record {
       room = search rules;

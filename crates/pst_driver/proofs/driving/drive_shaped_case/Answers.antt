@@ -6,9 +6,9 @@ use Rattle.pst_driver.proofs.driving.drive_shaped_case.Goals as goal
 pub returns-clause-driven : goal.returns-clause-driven
 returns-clause-driven g c =
     let A = g.S.Subject.may_answer in let F = g.S.Subject.may_fail in
-    let s = c.restart.new.self in let s' = c.args.system.now in
+    let s = c.reset_system.new.self in let s' = c.args.system.now in
     all_driven _ (A s) (A s') (F s) (F s') _ _ _ _
-    (record { answers = λ k v. (c.restart.ensures.kept.answering k v).0; fails = λ k f. (c.restart.ensures.kept.failing k f).0 })
+    (record { answers = λ k v. (c.reset_system.ensures.kept.answering k v).0; fails = λ k f. (c.reset_system.ensures.kept.failing k f).0 })
     c.requires.shaped
     (rw (c.as_slice.ensures, c.new.ensures.items) at c.in_ok-prefix.ensures)
     (rw (c.as_slice-2.ensures, c.as_slice-branches.ensures) at c.in_ok-branches.ensures.replies)

@@ -9,7 +9,7 @@ use Rattle.pst_eval.proofs.evaluation.+eval.Goals as goal
 
 pub eval-returns-in-For : goal.eval-returns-in-For
 eval-returns-in-For t c =
-    rw (c.in-For.is, mean_for c.args.context.now.items.now (functions_in c.args.context.now) c.in-For.clauses c.in-For.body) (rw (c.as_slice-in-For.ensures, c.get-in-For.ensures) at c.comprehension.ensures)
+    rw (c.in-For.is, mean_for c.args.context.now.items.now (functions_in c.args.context.now) c.in-For.clauses c.in-For.body) (rw (c.as_slice-in-For.ensures, c.get-in-For.ensures) at c.eval_comprehension.ensures)
 
 pub eval_all-eval-requires : goal.eval_all-eval-requires
 eval_all-eval-requires t c =
@@ -40,8 +40,8 @@ eval_clauses-returns-in-In t c =
     let e = visit_in c.args.context.now.items.now (functions_in c.args.context.now) c.args.clauses.now c.in-Some.rest.now c.in-Some.first.now c.in-In.name c.in-In.list (mean_in c.args.context.now c.args.body.now) (env_of c.args.env.now) c.args.built c.in_ok-items-in-In.items c.in_ok-value-in-In.value c.args.turns.now c.eval-in-In.new.turns c.in-Some.ensures c.in-In.is c.in_ok-value-in-In.ensures c.in_ok-items-in-In.ensures in
     rw e (rw (c.as_bytes.ensures, c.as_slice.ensures) at c.eval_clauses_for_each.ensures)
 
-pub comprehension-returns-in_err-built : goal.comprehension-returns-in_err-built
-comprehension-returns-in_err-built t c =
+pub eval_comprehension-returns-in_err-built : goal.eval_comprehension-returns-in_err-built
+eval_comprehension-returns-in_err-built t c =
     let p = err_from_is_err_and c.from_residual.result c.from_residual.ensures.1 in
     rw (p.1, p.2) (stops_on _ _ _ (rw c.new.ensures at c.in_err-built.ensures))
 

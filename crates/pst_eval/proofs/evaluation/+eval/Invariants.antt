@@ -31,8 +31,8 @@ decreases-eval_truth l = 4 * (weight l.expr.now + functions_weight (reverse l.co
 abbrev pub decreases-eval_all : goal.decreases-eval_all
 decreases-eval_all l = 4 * (total (map weight l.exprs.now) + functions_weight (reverse l.context.now.earlier.now)) + 1
 
-abbrev pub decreases-comprehension : goal.decreases-comprehension
-decreases-comprehension l = 4 * (total (map clause_weight l.clauses.now) + weight l.body.now + functions_weight (reverse l.context.now.earlier.now)) + 2
+abbrev pub decreases-eval_comprehension : goal.decreases-eval_comprehension
+decreases-eval_comprehension l = 4 * (total (map clause_weight l.clauses.now) + weight l.body.now + functions_weight (reverse l.context.now.earlier.now)) + 2
 
 abbrev pub decreases-eval_clauses : goal.decreases-eval_clauses
 decreases-eval_clauses l = 4 * (total (map clause_weight l.clauses.now) + weight l.body.now + functions_weight (reverse l.context.now.earlier.now)) + 1

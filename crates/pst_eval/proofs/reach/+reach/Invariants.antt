@@ -2,8 +2,8 @@ use Rattle.std.proofs.Common.{◌+◌, ◌*◌, map}
 use Rattle.pst_eval.specs.Weight.{weight, total}
 use Rattle.pst_eval.proofs.reach.+reach.Given as goal
 
-abbrev pub decreases-reach_of : goal.decreases-reach_of
-decreases-reach_of l = 8 * weight l.expr.now
+abbrev pub decreases-reach_of_expression : goal.decreases-reach_of_expression
+decreases-reach_of_expression l = 8 * weight l.expr.now
 
 abbrev pub decreases-reach_of_let : goal.decreases-reach_of_let
 decreases-reach_of_let l = 8 * (weight l.value.now + weight l.body.now) + 2

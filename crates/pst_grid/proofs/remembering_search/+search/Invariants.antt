@@ -4,14 +4,14 @@ use Rattle.pst_grid.specs.Kept.{IsFresh}
 use Rattle.pst_grid.specs.Remembered.{HasCoveredAll, IsGrown}
 use Rattle.pst_grid.proofs.remembering_search.+search.Given as goal
 
-abbrev pub decreases-explore : goal.decreases-explore
-decreases-explore g l = 2 * (sum l.lengths.now - sum l.search.now.done.items) + 1
+abbrev pub decreases-explore_unless_remembered : goal.decreases-explore_unless_remembered
+decreases-explore_unless_remembered g l = 2 * (sum l.lengths.now - sum l.search.now.done.items) + 1
 
 abbrev pub decreases-explore_branch : goal.decreases-explore_branch
 decreases-explore_branch g l = 2 * (sum l.lengths.now - sum l.search.now.done.items)
 
-abbrev pub invariant-explore-loop-branch : goal.invariant-explore-loop-branch
-invariant-explore-loop-branch g l =
+abbrev pub invariant-explore_unless_remembered-loop-branch : goal.invariant-explore_unless_remembered-loop-branch
+invariant-explore_unless_remembered-loop-branch g l =
     let here = l.initial.search in
     record {
       fresh : IsFresh l.goal l.search.best;

@@ -8,8 +8,8 @@ some-requires-clause-state g c = (c.requires.state, c.requires.events)
 pub some-requires-clause-commands : goal.some-requires-clause-commands
 some-requires-clause-commands g c = rw (c.as_slice-2.ensures.value, c.in_ok-lengths.ensures, c.as_slice.ensures, c.case.ensures.same) c.requires.commands
 
-pub verdict_of-requires : goal.verdict_of-requires
-verdict_of-requires g c =
+pub verdict_of_search_answer-requires : goal.verdict_of_search_answer-requires
+verdict_of_search_answer-requires g c =
     let a = rw (c.as_slice-2.ensures.value, c.in_ok-lengths.ensures, c.as_slice.ensures, c.case.ensures.same) at c.in_ok-answer.ensures.answer in
     let m = g.C.Callbacks.model c.args.branches.now.callbacks.now in
     let asked = g.A.Condition.asked c.args.branches.now.condition.now m in
@@ -18,4 +18,4 @@ verdict_of-requires g c =
 pub returns : goal.returns
 returns g c =
     let a = rw (c.as_slice-2.ensures.value, c.in_ok-lengths.ensures, c.as_slice.ensures, c.case.ensures.same) at c.in_ok-answer.ensures.answer in
-    (c.in_ok-answer.answer, a, c.verdict_of.ensures.verdict, c.verdict_of.ensures.letters)
+    (c.in_ok-answer.answer, a, c.verdict_of_search_answer.ensures.verdict, c.verdict_of_search_answer.ensures.letters)

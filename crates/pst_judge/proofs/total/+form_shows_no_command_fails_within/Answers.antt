@@ -5,4 +5,4 @@ use Rattle.pst_judge.proofs.total.+form_shows_no_command_fails_within.Goals as g
 pub returns : goal.returns
 returns t c = λ yes.
     let more : c.args.steps ≡ suc (c.args.steps - 1) = omega arith in
-    one_step c.args.model.now c.args.reach c.args.branches.now c.args.suffix.now c.args.steps (c.args.steps - 1) _ _ _ more c.greater-after.ensures c.in-Some.ensures c.in-Some-reach_after_any.ensures (c.form_shows_no_command_fails_within.ensures yes)
+    one_step c.args.model.now c.args.reach c.args.branches.now c.args.suffix.now c.args.steps (c.args.steps - 1) _ _ _ more c.greater-after.ensures c.in-Some.ensures c.in-Some-greatest_reach_after_commands.ensures (c.form_shows_no_command_fails_within.ensures yes)

@@ -12,5 +12,5 @@ returns g c =
     let r = q.run.now in
     let m = g.C.Callbacks.model r.callbacks.now in
     let Ends : Source → List ℕ → Type 0 = λ x v. EndsAsking m (λ s e. asks_at q.number (λ t d. none_is_right x t d c.args.answers.now) q.others.now m s e) r.shaped.now.case r.history.now AllTrue v in
-    let P : Source → Type 0 = λ x. IfOk c.explaining_interleaving.result (λ merge. MatchOption merge ((v : List ℕ) → Ends x v → ⊥) (λ word. Ends x word.items)) in
-    subst P c.requires.same c.explaining_interleaving.ensures
+    let P : Source → Type 0 = λ x. IfOk c.interleaving_satisfying_condition.result (λ merge. MatchOption merge ((v : List ℕ) → Ends x v → ⊥) (λ word. Ends x word.items)) in
+    subst P c.requires.same c.interleaving_satisfying_condition.ensures

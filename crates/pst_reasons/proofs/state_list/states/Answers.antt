@@ -3,8 +3,8 @@ use Rattle.pst_case.specs.Shape.{result_types}
 use Rattle.pst_judge.proofs.Fitted.{prefix_fits, branches_each, branches_count, branches_within, suffix_fits}
 use Rattle.pst_reasons.proofs.state_list.states.Goals as goal
 
-pub append_states-requires : goal.append_states-requires
-append_states-requires g c =
+pub append_states_while_events_hold-requires : goal.append_states_while_events_hold-requires
+append_states_while_events_hold-requires g c =
     let m = g.C.Callbacks.model c.args.run.now.callbacks.now in
     let ts = result_types m c.args.run.now.shaped.now.case in
     let f = prefix_fits m c.args.run.now.shaped.now.case c.args.run.now.history.now (rw c.requires.of_model at c.case-case.ensures.shape) c.requires.of_case c.requires.answered in

@@ -8,5 +8,5 @@ use Rattle.pst_rejudge.proofs.object.json_object_line.Goals as goal
 
 pub returns-clause-reads_back : goal.returns-clause-reads_back
 returns-clause-reads_back c =
-    let whole : c.write_json_fields_and_end.new.writer.tokens ≡ json_tokens (object_of c.args.fields.now) = search rules in
+    let whole : c.write_json_fields_and_end_object.new.writer.tokens ≡ json_tokens (object_of c.args.fields.now) = search rules in
     read_back c.args.fields.now (ap (λ ts. tokens (print ts)) (sym whole) ∙ c.into_inner-line.ensures.reads_back ∙ whole)

@@ -4,10 +4,10 @@ use Rattle.pst_run_problems.proofs.Led.{entries_led, read_led, type_at}
 use Rattle.pst_run_problems.proofs.value_fault.+first_value_fault.Goals as goal
 use Rattle.pst_run_problems.proofs.value_fault.+first_value_fault.Goals.{value_fault_at_tree_number-in-Same+in_ok-found-in-Same, value_fault_at_tree_number-in-Items+in-Some+in_ok-found-in-Some, value_fault_at_tree_number-in-Items+in-None, value_fault_at_tree_number-in-Params+in-Some-get+in_ok-found-in-Some-get, value_fault_at_tree_number-in-Params+in-None-get, value_fault_at_tree_number-in-Entries+in_ok-found-in-Entries}
 use Rattle.pst_run_problems.specs.ValuePlaces as spec
-use Rattle.pst_run_problems.specs.declared.value_fault.Types.{Types}
+use Rattle.pst_run_problems.specs.declared.value_fault.WantedTypes.{WantedTypes}
 
-pub first_value_fault_among_trees-returns-in-Some : goal.first_value_fault_among_trees-returns-in-Some
-first_value_fault_among_trees-returns-in-Some t c =
+pub first_value_fault_after_head-returns-in-Some : goal.first_value_fault_after_head-returns-in-Some
+first_value_fault_after_head-returns-in-Some t c =
     entries_led c.args.search.now.source.now c.args.search.now.results.now _ _ _ c.args.trees.now _ _ c.in-Entries.is
     c.in-Some.is c.in_ok-found.ensures
 
@@ -17,7 +17,7 @@ value_fault_at_tree_number-returns-in_ok-prepend_tree_number_to_path-in-Some-fou
     let l : c.args.number < length c.args.trees.now = omega (arith, c.if-number-trees.false) in
     let m = c.args.search.now.source.now in
     let rs = c.args.search.now.results.now in
-    let role = λ (tys : Types). spec.role_at (spec.parts_in tys) c.args.trees.now c.args.number in
+    let role = λ (tys : WantedTypes). spec.role_at (spec.parts_in tys) c.args.trees.now c.args.number in
     let led = read_led m rs c.args.types c.args.trees.now c.args.number in
     let g = c.index-trees-number.is in
     let e = c.in_ok-prepend_tree_number_to_path-in-Some-found.ensures in

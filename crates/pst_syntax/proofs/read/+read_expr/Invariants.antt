@@ -5,8 +5,8 @@ use Rattle.pst_syntax.proofs.read.+read_expr.Given as goal
 abbrev pub decreases-read_expr : goal.decreases-read_expr
 decreases-read_expr l = 5 * l.room
 
-abbrev pub decreases-expr_parts : goal.decreases-expr_parts
-decreases-expr_parts l = 5 * l.room + 4
+abbrev pub decreases-read_expr_of_shape : goal.decreases-read_expr_of_shape
+decreases-read_expr_of_shape l = 5 * l.room + 4
 
 abbrev pub decreases-read_exprs : goal.decreases-read_exprs
 decreases-read_exprs l = 5 * l.room + 1
@@ -23,8 +23,8 @@ invariant-read_exprs-loop-form l = each (expr_of l.has_maps l.room) l.forms ≡ 
 abbrev pub invariant-read_clauses-loop-form : goal.invariant-read_clauses-loop-form
 invariant-read_clauses-loop-form l = each (clause_of l.has_maps (expr_of l.has_maps l.room)) l.forms ≡ (each (clause_of l.has_maps (expr_of l.has_maps l.room)) (drop l.form-index l.forms) >>= (λ more. Ok (l.clauses ++ more)))
 
-abbrev pub decreases-read_boxed : goal.decreases-read_boxed
-decreases-read_boxed l = 5 * l.room + 1
+abbrev pub decreases-read_boxed_expr : goal.decreases-read_boxed_expr
+decreases-read_boxed_expr l = 5 * l.room + 1
 
 abbrev pub decreases-read_let : goal.decreases-read_let
 decreases-read_let l = 5 * l.room + 3

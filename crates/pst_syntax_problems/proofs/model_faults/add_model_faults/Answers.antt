@@ -10,6 +10,6 @@ use Rattle.pst_syntax_problems.proofs.model_faults.add_model_faults.Goals as goa
 
 pub returns : goal.returns
 returns c =
-    both_unless c.args.walk.limit c.args.path.now role.Model c.is_within_tree_limit-are_few.result (nat_le (trees_in c.args.form.now) max_trees) OverLimit
+    both_unless c.args.walk.limit c.args.path.now role.Model c.is_model_within_tree_limit-are_few.result (nat_le (trees_in c.args.form.now) max_trees) OverLimit
     (named_faults_at c.args.path.now (model_shape c.args.form.now))
-    c.args.faults.now c.push_fault_unless.new.faults c.add_model_faults_except_tree_count.new.faults c.is_within_tree_limit-are_few.ensures c.in_ok-push_fault_unless.ensures c.in_ok-add_model_faults_except_tree_count.ensures
+    c.args.faults.now c.push_fault_unless.new.faults c.add_model_faults_except_tree_count.new.faults c.is_model_within_tree_limit-are_few.ensures c.in_ok-push_fault_unless.ensures c.in_ok-add_model_faults_except_tree_count.ensures

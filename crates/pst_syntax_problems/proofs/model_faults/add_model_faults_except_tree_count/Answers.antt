@@ -16,7 +16,7 @@ returns c =
     let path = c.args.path.now in
     let m = shown_model c.in-Some.shape in
     let e : model_shape c.args.form.now ≡ Some m = sym c.model_shape.ensures ∙ ap shown_model_option c.in-Some.is in
-    both limit c.args.faults.now c.push_name_faults_at_part.new.faults c.add_items_faults.new.faults
+    both limit c.args.faults.now c.push_name_faults_at_part.new.faults c.add_faults_of_items_and_missing_ones.new.faults
     (map (placed (below path 1) role.ModelName) (name_faults (is_name m.name) false m.name)) (items_faults_at m.has_maps [] path 2 m.items)
-    (c.in_ok-push_name_faults_at_part.ensures ∙ ap (λ (is_lawful : Bool). keep limit c.args.faults.now (map (placed (below path 1) role.ModelName) (name_faults is_lawful false m.name))) c.is_name.ensures) c.in_ok-add_items_faults.ensures
+    (c.in_ok-push_name_faults_at_part.ensures ∙ ap (λ (is_lawful : Bool). keep limit c.args.faults.now (map (placed (below path 1) role.ModelName) (name_faults is_lawful false m.name))) c.is_name.ensures) c.in_ok-add_faults_of_items_and_missing_ones.ensures
     ∙ ap (λ (shape : Option ModelShape). keep limit c.args.faults.now (named_faults_at path shape)) (sym e)

@@ -5,8 +5,8 @@ use Rattle.pst_compile.specs.Compiled.{DoesOnly}
 use Rattle.pst_compile.proofs.Answering.{says_of, well_of, compiled_of, post_only}
 use Rattle.pst_compile.proofs.compiled.CompiledCallbacks.post.Goals as goal
 
-pub run_function-requires : goal.run_function-requires
-run_function-requires c =
+pub run_callback_with_max_turns-requires : goal.run_callback_with_max_turns-requires
+run_callback_with_max_turns-requires c =
     let m = c.args.self.now in
     let t = c.self.inside.typed in
     let code = c.self.inside.code in
@@ -37,7 +37,7 @@ returns-clause-says c =
     let here : place ≡ base + 3 * c.args.op + 4 = omega (arith, c.in_ok-place.ensures) in
     let o = post_of m c.args.op c.args.state.now c.args.arguments.now c.args.r.now in
     let d : DoesOnly code place (c.args.state.now ∷ c.args.r.now ∷ c.args.arguments.now) o = post_only m code base place c.args.op c.args.state.now c.args.arguments.now c.args.r.now well compiled c.requires here in
-    says_of code place (c.args.state.now ∷ c.args.r.now ∷ c.args.arguments.now) o c.run_function.result d c.run_function.ensures
+    says_of code place (c.args.state.now ∷ c.args.r.now ∷ c.args.arguments.now) o c.run_callback_with_max_turns.result d c.run_callback_with_max_turns.ensures
 
 pub returns-clause-fits : goal.returns-clause-fits
 returns-clause-fits c =
@@ -54,5 +54,5 @@ returns-clause-fits c =
     let here : place ≡ base + 3 * c.args.op + 4 = omega (arith, c.in_ok-place.ensures) in
     let o = post_of m c.args.op c.args.state.now c.args.arguments.now c.args.r.now in
     let d : DoesOnly code place (c.args.state.now ∷ c.args.r.now ∷ c.args.arguments.now) o = post_only m code base place c.args.op c.args.state.now c.args.arguments.now c.args.r.now well compiled c.requires here in
-    let says = says_of code place (c.args.state.now ∷ c.args.r.now ∷ c.args.arguments.now) o c.run_function.result d c.run_function.ensures in
-    post_gives m c.args.op c.args.state.now c.args.arguments.now c.args.r.now c.run_function.result well c.requires says
+    let says = says_of code place (c.args.state.now ∷ c.args.r.now ∷ c.args.arguments.now) o c.run_callback_with_max_turns.result d c.run_callback_with_max_turns.ensures in
+    post_gives m c.args.op c.args.state.now c.args.arguments.now c.args.r.now c.run_callback_with_max_turns.result well c.requires says

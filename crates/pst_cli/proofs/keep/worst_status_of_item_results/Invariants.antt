@@ -1,7 +1,0 @@
-use Rattle.std.proofs.Common.{◌≡◌, drop}
-use Rattle.pst_cli.specs.KeepingOn.{worst_status}
-use Rattle.pst_cli.specs.declared.status.Status.TheVariants.{Accepted}
-use Rattle.pst_cli.proofs.keep.worst_status_of_item_results.Given as goal
-
-abbrev pub invariant-loop-answer : goal.invariant-loop-answer
-invariant-loop-answer l = worst_status Accepted l.answers ≡ worst_status l.status (drop l.answer-index l.answers)

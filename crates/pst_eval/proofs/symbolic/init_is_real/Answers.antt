@@ -1,5 +1,0 @@
-use Rattle.pst_eval.proofs.SymbolicTable.{init_commutes}
-use Rattle.pst_eval.proofs.symbolic.init_is_real.Goals as goal
-
-pub returns : goal.returns
-returns c = λ m w results. init_commutes results m w

@@ -1,5 +1,0 @@
-use Rattle.pst_eval.proofs.SymbolicTable.{pre_commutes}
-use Rattle.pst_eval.proofs.symbolic.pre_is_real.Goals as goal
-
-pub returns : goal.returns
-returns c = λ m w results free vars op s args h. pre_commutes results free vars m op s args w h

@@ -1,5 +1,0 @@
-use Rattle.pst_grid.proofs.Counting.{few-steps}
-use Rattle.pst_grid.proofs.laws.few_steps_in_one_state.Goals as goal
-
-pub returns : goal.returns
-returns g c = few-steps

@@ -1,5 +1,0 @@
-use Rattle.pst_grid.proofs.Alone.{runs-alone}
-use Rattle.pst_grid.proofs.laws.run_without_rest_is_run_of_word.Goals as goal
-
-pub returns : goal.returns
-returns g c = runs-alone

@@ -1,6 +1,0 @@
-use Rattle.pst_judge.proofs.Passing.{each_more}
-use Rattle.pst_judge.proofs.total.+reach_after_any.Goals as goal
-
-pub returns-in_ok-reach_after_any-in-Some : goal.returns-in_ok-reach_after_any-in-Some
-returns-in_ok-reach_after_any-in-Some t c =
-    each_more c.args.model.now c.args.reach _ _ _ _ _ _ c.in-Some.ensures.cases.0 c.greater.ensures c.in_ok-after-in-Some.ensures c.in_ok-reach_after_any-in-Some.ensures

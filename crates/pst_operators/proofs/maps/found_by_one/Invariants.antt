@@ -1,8 +1,0 @@
-use Rattle.std.proofs.Common.{◌≡◌, ◌+◌, not, drop}
-use Rattle.std.specs.List.{prefix_len}
-use Rattle.pst_value.specs.Equality.{same_key}
-use Rattle.pst_value.specs.declared.key.Key.TheVariants as kinds
-use Rattle.pst_operators.proofs.maps.found_by_one.Given as goal
-
-abbrev pub invariant-loop-i : goal.invariant-loop-i
-invariant-loop-i l = prefix_len (λ m. not (same_key m (kinds.Int l.number))) l.keys ≡ l.i + prefix_len (λ m. not (same_key m (kinds.Int l.number))) (drop l.i l.keys)

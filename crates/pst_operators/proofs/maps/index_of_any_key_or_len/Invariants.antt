@@ -1,0 +1,7 @@
+use Rattle.std.proofs.Common.{◌≡◌, ◌+◌, not, drop}
+use Rattle.std.specs.List.{prefix_len}
+use Rattle.pst_value.specs.Equality.{same_key}
+use Rattle.pst_operators.proofs.maps.index_of_any_key_or_len.Given as goal
+
+abbrev pub invariant-loop-i : goal.invariant-loop-i
+invariant-loop-i l = prefix_len (λ m. not (same_key m l.key)) l.keys ≡ l.i + prefix_len (λ m. not (same_key m l.key)) (drop l.i l.keys)

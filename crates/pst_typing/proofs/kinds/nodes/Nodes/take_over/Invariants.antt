@@ -1,5 +1,0 @@
-use Rattle.pst_typing.proofs.Taking.{IsTaken}
-use Rattle.pst_typing.proofs.kinds.nodes.Nodes.take_over.Given as goal
-
-abbrev pub invariant-loop-at : goal.invariant-loop-at
-invariant-loop-at l = IsTaken l.fn.self l.self l.others l.places l.at
