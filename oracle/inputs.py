@@ -341,7 +341,7 @@ def without_references(value):
     if isinstance(value, (Tuple, List)):
         return type(value)(tuple(map(without_references, parts_of(value))))
     if isinstance(value, Map):
-        return Map(tuple((key, without_references(part)) for key, part in value.entries))
+        return Map(tuple((without_references(key), without_references(part)) for key, part in value.entries))
     return value
 
 
