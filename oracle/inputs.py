@@ -337,6 +337,8 @@ class Inputs:
 
 def without_references(value):
     if isinstance(value, Reference):
+        if value.value is None:
+            raise TypeError("a reference to a result that is not known")
         return without_references(value.value)
     if isinstance(value, (Tuple, List)):
         return type(value)(tuple(map(without_references, parts_of(value))))
