@@ -24,7 +24,7 @@ use std::sync::{Arc, Wait};
 use std::thread;
 use std::thread::{Scope, Threads};
 
-/// Runs trial `number` with the threads of a crew, with its fault as a cause. `shrink_progress` counts the candidates
+/// Runs trial `number` with the threads of a crew, with its fault as a cause. `shrinking` counts the candidates
 /// that it drives.
 #[tactic(auto, using(crate::specs::Moving::gives_loss))]
 fn run_campaign_trial_with_crew<J: Relations, S: Subject, H: Wait>(

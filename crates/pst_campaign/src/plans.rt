@@ -26,7 +26,7 @@ pub(crate) fn loss_cause_of_trial_fault(fault: TrialFault) -> Cause
     }
 }
 
-/// Runs trial `number`, with its fault as a cause. `shrink_progress` counts the candidates that it drives.
+/// Runs trial `number`, with its fault as a cause. `shrinking` counts the candidates that it drives.
 #[tactic(auto, using(crate::specs::Moving::gives_loss))]
 fn run_campaign_trial<H: Threads + Wait>(
     rt: &H,

@@ -31,7 +31,7 @@ impl ProgressCounter {
         }
     }
 
-    /// There are `known_total` items, and none of them is done yet. If `known_total` is 0, their number counts as not known.
+    /// There are `all` items, and none of them is done yet. If `all` is 0, their number counts as not known.
     pub fn restart_with_total(&self, all: usize) {
         self.done.store(0, Ordering::SeqCst);
         self.all.store(all as u64, Ordering::SeqCst);

@@ -80,7 +80,7 @@ pub enum CaseFormFault {
     NoList,
 }
 
-/// The parts of `form` after the word `keyword`, if it is a node that begins with this word.
+/// The parts of `form` after the word `word`, if it is a node that begins with this word.
 pub fn parts_after_head_word<'a>(word: &str, form: &'a Form) -> Option<&'a [Form]>
     ensures { option_copied result ≡ section word.now form.now }
 {

@@ -75,7 +75,7 @@ fn other_branch_variable_problem(alloc: Global, path: &[usize], number: usize) -
     )
 }
 
-/// The problem of the fault `fault`, if there is one, at the tree that `path` leads to.
+/// The problem of `fault`, if there is one, at the tree that `path` leads to.
 pub fn value_fault_problem(
     alloc: Global,
     path: &[usize],

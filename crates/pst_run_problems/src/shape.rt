@@ -70,7 +70,7 @@ impl fmt::Display for CaseOrRunSyntax {
     }
 }
 
-/// Whether one of the trees in `form` has the head `keyword`.
+/// Whether one of the trees in `form` has the head `word`.
 fn has_part_with_head(form: &Form, word: &str) -> bool {
     node_parts_or_empty(form)
         .iter()

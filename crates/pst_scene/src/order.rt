@@ -14,7 +14,7 @@ fn count_branch_in_interleaving(interleaving: &[usize], branch: usize) -> usize 
     count
 }
 
-/// Returns the next command of `branch` after the interleaving `interleaving`.
+/// Returns the next command of `branch` after `interleaving`.
 fn next_call_of_branch_after_interleaving<'a>(
     calls: &Calls<'a>,
     interleaving: &[usize],
@@ -33,7 +33,7 @@ fn add_calls<'a>(order: &mut Vec<Call<'a>>, calls: &[Call<'a>]) -> Result<(), Al
     Ok(())
 }
 
-/// Returns the commands of the prefix, those of the branches in the order of the interleaving `interleaving`, and those of the
+/// Returns the commands of the prefix, those of the branches in the order of `interleaving`, and those of the
 /// suffix.
 pub fn calls_in_interleaving_order<'a>(
     alloc: Global,
@@ -52,7 +52,7 @@ pub fn calls_in_interleaving_order<'a>(
     Ok(order)
 }
 
-/// Returns the next command of each branch after the interleaving `interleaving`.
+/// Returns the next command of each branch after `interleaving`.
 fn next_call_of_each_branch<'a>(
     alloc: Global,
     calls: &Calls<'a>,
@@ -67,7 +67,7 @@ fn next_call_of_each_branch<'a>(
     Ok(next)
 }
 
-/// Returns the commands that may come after the first `count` events of the prefix, the interleaving `interleaving` and the
+/// Returns the commands that may come after the first `count` events of the prefix, `interleaving` and the
 /// suffix: the next one of the prefix, or of each branch, or of the suffix.
 pub fn calls_that_may_come_next<'a>(
     alloc: Global,

@@ -133,7 +133,7 @@ pub fn states_along_calls(
     Ok(states)
 }
 
-/// Returns the commands before `call` in the interleaving `interleaving`.
+/// Returns the commands before `call` in `interleaving`.
 pub fn calls_before_call_in_interleaving<'a>(
     alloc: Global,
     scene: &Scene<'a>,
@@ -145,7 +145,7 @@ pub fn calls_before_call_in_interleaving<'a>(
     first_calls(alloc, order.as_slice(), count)
 }
 
-/// Returns the state before `call` in the interleaving `interleaving`. `None` if a callback faults before it.
+/// Returns the state before `call` in `interleaving`. `None` if a callback faults before it.
 pub fn state_before_call_in_interleaving(
     alloc: Global,
     scene: &Scene<'_>,
