@@ -1,15 +1,15 @@
 //! A line that displays the progress of a campaign, on a terminal.
 
+use crate::end_signal::EndSignal;
 use crate::item_progress::DisplayedRate;
 use pst_campaign::{Watch, did_not_pass};
 use pst_ledger::Cause;
 use pst_trial::{Record, ShrinkProgress};
 use std::alloc::{AllocError, Global};
 use std::fmt;
-use std::sync::atomic::{AtomicBool, AtomicU64, Ordering};
+use std::sync::atomic::{AtomicU64, Ordering};
 use std::sync::{Arc, Wait};
-use std::thread::{Builder, JoinHandle, Parker, Threads};
-use std::time::Duration;
+use std::thread::{Builder, JoinHandle, Threads};
 
 /// How many milliseconds pass before the line is written again.
 const PAUSE: u64 = 250;
@@ -161,8 +161,7 @@ impl Watch for CampaignProgress {
 #[derive(Drop)]
 struct DisplayedCampaignProgress {
     progress: CampaignProgress,
-    is_over: AtomicBool,
-    parker: Parker,
+    end: EndSignal,
 }
 
 /// Writes the line again and again until the campaign is over, and takes it away then.
@@ -176,10 +175,7 @@ fn display_campaign_progress_until_over<R: Wait + Eprint>(
         milliseconds,
     };
     for _ in rt.forever() {
-        displayed
-            .parker
-            .park_timeout(rt, Duration::from_millis(PAUSE));
-        if displayed.is_over.load(Ordering::SeqCst) {
+        if displayed.end.wait(rt, PAUSE) {
             break;
         }
         milliseconds = milliseconds.saturating_add(PAUSE);
@@ -215,8 +211,7 @@ impl CampaignProgressDisplay {
     ) -> Result<CampaignProgressDisplay, AllocError> {
         let displayed = DisplayedCampaignProgress {
             progress: CampaignProgress::new(all),
-            is_over: AtomicBool::new(false),
-            parker: Parker::new(),
+            end: EndSignal::new(),
         };
         let displayed = Arc::new(alloc, displayed)?;
         let own = Arc::try_clone(&displayed)?;
@@ -235,8 +230,7 @@ impl CampaignProgressDisplay {
     /// Ends the thread, and waits for it.
     pub fn end_thread_and_wait<R: Threads + Wait>(self, rt: &R) {
         let CampaignProgressDisplay { displayed, thread } = self;
-        displayed.is_over.store(true, Ordering::SeqCst);
-        displayed.parker.unpark();
+        displayed.end.send();
         if let Some(thread) = thread {
             thread.join(rt)
         }

@@ -40,6 +40,25 @@ struct CampaignOptions<'a> {
     line_width: usize,
 }
 
+impl<'a> CampaignOptions<'a> {
+    /// The options that the arguments give for a campaign on `input`.
+    fn from_context(
+        context: SubcommandContext<'a, '_>,
+        arguments: &'a ArgMatches<'_>,
+        input: Input<'a>,
+    ) -> CampaignOptions<'a> {
+        CampaignOptions {
+            ending: context.ending,
+            is_terminal: context.terminals.errors,
+            is_json_selected: subcommands::is_json_selected(arguments),
+            is_quiet: arguments.get_flag("quiet"),
+            page: OptionalCampaignPage::from_arguments(arguments, input),
+            input,
+            line_width: context.line_width,
+        }
+    }
+}
+
 /// Runs a campaign. If standard error is a terminal, a line on it displays the progress, unless the arguments forbid it.
 fn run_campaign_with_progress_on_terminal<
     W: Sink,
@@ -121,6 +140,64 @@ fn write_campaign_or_refusal_json_object<W: Sink>(
     }
 }
 
+/// Runs a campaign, and writes its report or its JSON object once it is complete. `Err`: there is no report, and the
+/// status is the one that the program ends with.
+fn run_campaign_and_write_complete_report<
+    W: Sink,
+    R: Threads + Wait + Sync + Eprint + Copy + Drop + Send + 'static,
+>(
+    rt: &R,
+    alloc: Global,
+    settings: Settings,
+    systems: Vec<BoxedSystem>,
+    options: CampaignOptions<'_>,
+    notes: &mut CampaignNotes,
+    out: &mut W,
+) -> Result<Status, Status>
+    requires ranges { AreInRange settings }
+    requires stands { W.broken out.old ≡ false }
+{
+    let input = options.input.bytes;
+    let mut report = Out::new(Vec::new(alloc));
+    let status = run_campaign_with_progress_on_terminal(
+        rt,
+        alloc,
+        settings,
+        systems,
+        options,
+        notes,
+        &mut report,
+    );
+    if options.is_json_selected {
+        let report = notes.report.as_ref();
+        return Ok(write_campaign_or_refusal_json_object(alloc, status, input, report, out));
+    }
+    write_campaign_report_or_memory_refusal(report.into_inner().as_slice(), status, out)
+}
+
+/// Writes explanations of the least failure and of the first trial without a case to standard error; without such a trial
+/// also the warnings on the model.
+fn print_campaign_explanations_and_warnings_to_stderr<R: Eprint>(
+    rt: &R,
+    alloc: Global,
+    settings: Settings,
+    options: CampaignOptions<'_>,
+    notes: &mut CampaignNotes,
+) {
+    let Input { files, bytes } = options.input;
+    campaign_messages::print_campaign_explanations_to_stderr(
+        rt,
+        alloc,
+        settings,
+        bytes,
+        notes,
+        options.line_width,
+    );
+    if notes.first_genfault.is_none() {
+        warnings::print_input_warnings_to_stderr(rt, alloc, files, bytes);
+    }
+}
+
 /// Runs a campaign and writes its report once it is complete. Unless the arguments forbid it, explanations of the least
 /// failure and of the first trial without a case follow on standard error; without such a trial also the warnings on the
 /// model.
@@ -146,37 +223,15 @@ fn run_campaign_with_page_and_messages<
         );
         return status.or_worse(page.write(rt, alloc, input, notes));
     }
-    let mut report = Out::new(Vec::new(alloc));
-    let status = run_campaign_with_progress_on_terminal(
-        rt,
-        alloc,
-        settings,
-        systems,
-        options,
-        notes,
-        &mut report,
-    );
-    let status = if options.is_json_selected {
-        write_campaign_or_refusal_json_object(alloc, status, input, notes.report.as_ref(), out)
-    } else {
-        match write_campaign_report_or_memory_refusal(report.into_inner().as_slice(), status, out) {
-            Ok(status) => status,
-            Err(status) => return status,
-        }
+    let status = match run_campaign_and_write_complete_report(
+        rt, alloc, settings, systems, options, notes, out,
+    ) {
+        Ok(status) => status,
+        Err(status) => return status,
     };
     let status = status.or_worse(page.write(rt, alloc, input, notes));
     if !options.is_quiet {
-        campaign_messages::print_campaign_explanations_to_stderr(
-            rt,
-            alloc,
-            settings,
-            input,
-            notes,
-            options.line_width,
-        );
-        if notes.first_genfault.is_none() {
-            warnings::print_input_warnings_to_stderr(rt, alloc, options.input.files, input);
-        }
+        print_campaign_explanations_and_warnings_to_stderr(rt, alloc, settings, options, notes);
     }
     status
 }
@@ -225,6 +280,31 @@ fn run_campaign_and_save_failures<
     status.or_worse(save_campaign_failures_if_kept(rt, saving, &notes, options.is_quiet))
 }
 
+/// Runs a campaign and saves its failures, if the folder for them was made. Else returns the status that the program ends
+/// with, or refuses.
+fn run_campaign_and_save_failures_if_begun<
+    W: Sink,
+    R: Threads + Wait + Sync + Eprint + Files + AllocGlobal + Copy + Drop + Send + 'static,
+>(
+    rt: &R,
+    settings: Settings,
+    systems: Vec<BoxedSystem>,
+    begun: Result<Result<FailureSaver<'_>, Status>, AllocError>,
+    options: CampaignOptions<'_>,
+    out: &mut W,
+) -> Status
+    requires ranges { AreInRange settings }
+    requires stands { W.broken out.old ≡ false }
+{
+    match begun {
+        Ok(Ok(saving)) => run_campaign_and_save_failures(
+            rt, settings, systems, &saving, options, out,
+        ),
+        Ok(Err(status)) => status,
+        Err(AllocError) => refuse_text(Absence::NoMemory, out),
+    }
+}
+
 /// Writes to standard error that the file that ends the campaign is there before it begins, if that is so.
 fn print_warning_if_stop_file_exists<R: Eprint>(
     rt: &R,
@@ -271,33 +351,20 @@ pub fn run_campaign_subcommand<
     let Some(settings) = subcommands::campaign_settings_from_arguments(arguments) else {
         return Status::Refused;
     };
-    let options = CampaignOptions {
-        ending: context.ending,
-        is_terminal: context.terminals.errors,
-        is_json_selected: subcommands::is_json_selected(arguments),
-        is_quiet: arguments.get_flag("quiet"),
-        page: OptionalCampaignPage::from_arguments(arguments, input),
-        input,
-        line_width: context.line_width,
-    };
+    let options = CampaignOptions::from_context(context, arguments, input);
     if !options.is_quiet {
         print_warning_if_stop_file_exists(rt, arguments, context.ending);
         print_note_if_branches_lack_commands(rt, settings);
     }
     if let Some(folder) = arguments.get_str("save") {
-        return match FailureSaver::begin_by_making_folder(
+        let begun = FailureSaver::begin_by_making_folder(
             rt,
             arguments,
             folder,
             settings.seed,
             name,
-        ) {
-            Ok(Ok(saving)) => run_campaign_and_save_failures(
-                rt, settings, systems, &saving, options, out,
-            ),
-            Ok(Err(status)) => status,
-            Err(AllocError) => refuse_text(Absence::NoMemory, out),
-        };
+        );
+        return run_campaign_and_save_failures_if_begun(rt, settings, systems, begun, options, out);
     }
     let mut notes = CampaignNotes::new_with_choice_to_keep_failures(
         options.page.is_page_wanted(),

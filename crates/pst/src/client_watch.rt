@@ -1,14 +1,16 @@
 //! Lines on standard error that say which client does not answer, and that resets fail.
 
+use crate::end_signal::EndSignal;
 use crate::stop_file::stop_file_name_from_arguments;
 use crate::systems::{ChosenSystems, systems_and_count_from_arguments};
 use clap::ArgMatches;
 use pst_clients::{ClientWaits, Notes};
 use std::alloc::{AllocError, Global};
-use std::sync::atomic::{AtomicBool, Ordering};
 use std::sync::{Arc, Wait};
-use std::thread::{Builder, JoinHandle, Parker, Threads};
-use std::time::Duration;
+use std::thread::{Builder, JoinHandle, Threads};
+
+/// How many milliseconds pass between two looks at the clients: the second that is counted.
+const PAUSE: u64 = 1_000;
 
 /// The number of seconds without an answer after which a line is written. The next line follows after twice this time.
 const FIRST: u64 = 5;
@@ -22,8 +24,7 @@ struct WatchedClients {
     notes: Arc<Notes, Global>,
     /// Whether a file ends the campaign.
     has_stop_file: bool,
-    is_over: AtomicBool,
-    parker: Parker,
+    end: EndSignal,
 }
 
 /// A client, as it was a second ago.
@@ -131,8 +132,7 @@ fn print_client_trouble_until_over<R: Wait + Eprint>(
     let mut clients = new_silence_timers(alloc, waits.len())?;
     let mut is_said = false;
     for _ in rt.forever() {
-        watched.parker.park_timeout(rt, Duration::from_secs(1));
-        if watched.is_over.load(Ordering::SeqCst) {
+        if watched.end.wait(rt, PAUSE) {
             return Ok(());
         }
         count_second_and_report_silent_clients(rt, alloc, waits, clients.as_mut_slice());
@@ -155,8 +155,7 @@ impl ClientWatch {
     /// Ends the thread, and waits for it.
     pub fn end_thread_and_wait<R: Threads + Wait>(self, rt: &R) {
         let ClientWatch { watched, thread } = self;
-        watched.is_over.store(true, Ordering::SeqCst);
-        watched.parker.unpark();
+        watched.end.send();
         thread.join(rt)
     }
 }
@@ -174,8 +173,7 @@ fn watched_clients_if_any_unless_quiet(
             let watched = WatchedClients {
                 notes: Arc::try_clone(notes).ok()?,
                 has_stop_file: stop_file_name_from_arguments(matches).is_some(),
-                is_over: AtomicBool::new(false),
-                parker: Parker::new(),
+                end: EndSignal::new(),
             };
             Arc::new(alloc, watched).ok()
         }

@@ -1,6 +1,7 @@
 //! Clients that a campaign or a run calls in place of a known system.
 
 use crate::outputs::print_file_error_to_stderr;
+use crate::preparing::PreparedInput;
 use crate::systems::{SystemsError, system_in_box};
 use clap::ArgMatches;
 use pst_clients::{ClientFolder, Clients, Notes, open_clients, result_types_of_operations};
@@ -32,18 +33,18 @@ fn operation_result_types_if_model_loads(
 }
 
 /// Opens the clients of worker number `worker`, from 0, whose pipes are in `folder`, and puts them into a box. They
-/// answer calls of the model at the beginning of `input`.
+/// answer calls of the model at the beginning of the input.
 pub fn open_boxed_clients_for_worker<H: Wait + Files + Drop, R: Files + AllocGlobal>(
     handle: H,
     rt: &R,
     folder: ClientFolder<'_>,
     worker: u64,
-    input: &[u8],
-    notes: &SharedClientNotes,
+    prepared: &PreparedInput<'_>,
 ) -> Result<Box<Clients<H, BufReader<R::File>, R::File>>, SystemsError> {
+    let input = prepared.input_with_items_as_trees().bytes;
     let (Ok(types), Ok(notes)) = (
         operation_result_types_if_model_loads(rt.alloc(), input),
-        Arc::try_clone(notes),
+        Arc::try_clone(&prepared.notes),
     ) else {
         return Err(SystemsError::NoMemory);
     };

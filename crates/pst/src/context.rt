@@ -22,3 +22,13 @@ pub struct SubcommandContext<'a, 'm> {
     /// The width of lines of explanations on standard error, in bytes.
     pub line_width: usize,
 }
+
+impl<'a, 'm> SubcommandContext<'a, 'm> {
+    /// The same with the output in a file, which is no terminal.
+    pub fn with_output_in_a_file(self) -> SubcommandContext<'a, 'm> {
+        SubcommandContext {
+            terminals: self.terminals.with_output_in_a_file(),
+            ..self
+        }
+    }
+}

@@ -66,6 +66,21 @@ struct DriveOptions {
     line_width: usize,
 }
 
+impl DriveOptions {
+    /// The options that the arguments give.
+    fn from_context(
+        context: SubcommandContext<'_, '_>,
+        arguments: &ArgMatches<'_>,
+    ) -> DriveOptions {
+        DriveOptions {
+            repeats: arguments.get_one("repeats"),
+            is_json_selected: is_json_selected(arguments),
+            has_progress_line: context.terminals.errors,
+            line_width: context.line_width,
+        }
+    }
+}
+
 /// Drives each item of the input, and writes the runs and their verdicts.
 fn drive_items_and_write_report<W: Sink, R: Threads + Wait>(
     rt: &R,
@@ -123,6 +138,7 @@ fn drive_items_with_progress_and_messages<
         return refuse_text(Absence::NoMemory, out);
     };
     let mut report = Out::new(Vec::new(alloc));
+    let steps = telling.steps();
     let status = drive_items_and_write_report(
         rt,
         alloc,
@@ -130,7 +146,7 @@ fn drive_items_with_progress_and_messages<
         options,
         input,
         counts,
-        telling.steps(),
+        steps,
         &mut report,
     );
     telling.end_thread_and_wait(rt);
@@ -164,18 +180,11 @@ pub fn drive_items_on_system_or_refuse<
     requires { W.broken out.old ≡ false }
 {
     let Some(mut system) = systems.pop() else {
-        return refuse_text(
-            Absence::NoSystem(system_name_from_arguments_or_empty(arguments)),
-            out,
-        );
+        let name = system_name_from_arguments_or_empty(arguments);
+        return refuse_text(Absence::NoSystem(name), out);
     };
     let alloc = rt.alloc();
-    let options = DriveOptions {
-        repeats: arguments.get_one("repeats"),
-        is_json_selected: is_json_selected(arguments),
-        has_progress_line: context.terminals.errors,
-        line_width: context.line_width,
-    };
+    let options = DriveOptions::from_context(context, arguments);
     match context.misfits {
         Some(misfits) => {
             drive_items_with_progress_and_messages(
@@ -189,15 +198,18 @@ pub fn drive_items_on_system_or_refuse<
                 out,
             )
         }
-        None => drive_items_and_write_report(
-            rt,
-            alloc,
-            &mut system,
-            options,
-            input,
-            counts,
-            &ProgressCounter::new(),
-            out,
-        ),
+        None => {
+            let steps = ProgressCounter::new();
+            drive_items_and_write_report(
+                rt,
+                alloc,
+                &mut system,
+                options,
+                input,
+                counts,
+                &steps,
+                out,
+            )
+        }
     }
 }

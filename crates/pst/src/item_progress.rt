@@ -1,12 +1,11 @@
 //! A line on a terminal that says how far a command is.
 
+use crate::end_signal::EndSignal;
 use crate::summary::add_number_with_thousands_commas;
 use pst_cli::ProgressCounter;
 use std::alloc::{AllocError, Global};
-use std::sync::atomic::{AtomicBool, Ordering};
 use std::sync::{Arc, Wait};
-use std::thread::{Builder, JoinHandle, Parker, Threads};
-use std::time::Duration;
+use std::thread::{Builder, JoinHandle, Threads};
 
 /// How many milliseconds pass before the line is written again.
 const PAUSE: u64 = 250;
@@ -17,8 +16,7 @@ struct DisplayedItemProgress {
     steps: ProgressCounter,
     /// What is done with an item, as `explained`.
     participle: &'static str,
-    is_over: AtomicBool,
-    parker: Parker,
+    end: EndSignal,
 }
 
 /// How fast something goes: how many a second, or how many seconds each one takes.
@@ -120,10 +118,7 @@ fn display_item_progress_until_over<R: Wait + Eprint>(
 ) {
     let mut milliseconds = 0u64;
     for _ in rt.forever() {
-        displayed
-            .parker
-            .park_timeout(rt, Duration::from_millis(PAUSE));
-        if displayed.is_over.load(Ordering::SeqCst) {
+        if displayed.end.wait(rt, PAUSE) {
             break;
         }
         milliseconds = milliseconds.saturating_add(PAUSE);
@@ -160,8 +155,7 @@ impl ItemProgressDisplay {
         let displayed = DisplayedItemProgress {
             steps: ProgressCounter::new(),
             participle,
-            is_over: AtomicBool::new(false),
-            parker: Parker::new(),
+            end: EndSignal::new(),
         };
         let displayed = Arc::new(alloc, displayed)?;
         if !has_progress_line {
@@ -189,8 +183,7 @@ impl ItemProgressDisplay {
     /// Ends the thread, and waits for it.
     pub fn end_thread_and_wait<R: Threads + Wait>(self, rt: &R) {
         let ItemProgressDisplay { displayed, thread } = self;
-        displayed.is_over.store(true, Ordering::SeqCst);
-        displayed.parker.unpark();
+        displayed.end.send();
         if let Some(thread) = thread {
             thread.join(rt)
         }

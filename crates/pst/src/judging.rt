@@ -204,6 +204,65 @@ fn begin_judging_progress_display<R: Threads + Wait + Eprint + Copy + Drop + Sen
     Ok(telling)
 }
 
+/// Judges all items of the input, even if some are refused, writes their lines once all are judged, counts them, and
+/// writes messages to standard error. `telling` displays the progress.
+fn judge_all_items_with_messages<W: Sink, R: Threads + Wait + Sync + Eprint>(
+    rt: &R,
+    alloc: Global,
+    arguments: &ArgMatches<'_>,
+    telling: ItemProgressDisplay,
+    input: ItemInput<'_>,
+    counts: &mut ItemResultCounts,
+    out: &mut W,
+) -> Status
+    requires { W.broken out.old ≡ false }
+{
+    let mut lines = Out::new(Vec::new(alloc));
+    let (status, answered) = judge_all_items_despite_refusals(
+        rt,
+        alloc,
+        arguments,
+        input.trees.bytes,
+        telling.steps(),
+        &mut lines,
+    );
+    telling.end_thread_and_wait(rt);
+    let status = write_item_lines_or_memory_refusal(arguments, lines, status, out);
+    count_item_results_and_print_messages(rt, alloc, input, counts, answered);
+    status
+}
+
+/// Judges the items of the input up to the first refused one, writes their lines once they are judged, counts them, and
+/// writes messages to standard error. `telling` displays the progress.
+fn judge_items_up_to_refusal_with_messages<W: Sink, R: Threads + Wait + Sync + Eprint>(
+    rt: &R,
+    alloc: Global,
+    arguments: &ArgMatches<'_>,
+    telling: ItemProgressDisplay,
+    input: ItemInput<'_>,
+    counts: &mut ItemResultCounts,
+    out: &mut W,
+) -> Status
+    requires { W.broken out.old ≡ false }
+{
+    let mut lines = Out::new(Vec::new(alloc));
+    let (status, judged) = judge_file_with_progress(
+        rt,
+        alloc,
+        input.trees.bytes,
+        shown_items_from_arguments(arguments),
+        telling.steps(),
+        &mut lines,
+    );
+    telling.end_thread_and_wait(rt);
+    let status = write_item_lines_or_memory_refusal(arguments, lines, status, out);
+    if let Some(judged) = &judged {
+        counts.add_judged_items(judged.judged.as_slice());
+    }
+    print_messages_on_judged_runs(rt, alloc, input, judged);
+    status
+}
+
 /// Judges the items of the input, up to the first refused one, or all of them with `--keep-going` or JSON output.
 /// Unless the arguments forbid messages, it then counts the items, and may write messages to standard error; if
 /// `has_progress_line`, it displays the progress.
@@ -225,31 +284,13 @@ pub fn run_judge_subcommand<
     if arguments.get_flag("quiet") {
         return judge_items_without_messages(rt, alloc, arguments, bytes, out);
     }
-    let mut lines = Out::new(Vec::new(alloc));
     let Ok(telling) = begin_judging_progress_display(rt, alloc, has_progress_line, bytes) else {
+        let lines = Out::new(Vec::new(alloc));
         return write_item_lines_or_memory_refusal(arguments, lines, Status::Lost, out);
     };
     if is_json_selected(arguments) || arguments.get_flag("keep-going") {
-        let (status, answered) = judge_all_items_despite_refusals(
-            rt,
-            alloc,
-            arguments,
-            bytes,
-            telling.steps(),
-            &mut lines,
-        );
-        telling.end_thread_and_wait(rt);
-        let status = write_item_lines_or_memory_refusal(arguments, lines, status, out);
-        count_item_results_and_print_messages(rt, alloc, input, counts, answered);
-        return status;
+        judge_all_items_with_messages(rt, alloc, arguments, telling, input, counts, out)
+    } else {
+        judge_items_up_to_refusal_with_messages(rt, alloc, arguments, telling, input, counts, out)
     }
-    let (shown, steps) = (shown_items_from_arguments(arguments), telling.steps());
-    let (status, judged) = judge_file_with_progress(rt, alloc, bytes, shown, steps, &mut lines);
-    telling.end_thread_and_wait(rt);
-    let status = write_item_lines_or_memory_refusal(arguments, lines, status, out);
-    if let Some(judged) = &judged {
-        counts.add_judged_items(judged.judged.as_slice());
-    }
-    print_messages_on_judged_runs(rt, alloc, input, judged);
-    status
 }

@@ -10,6 +10,7 @@ mod clients;
 mod context;
 mod converting;
 mod driving;
+mod end_signal;
 mod explaining;
 mod formatting;
 mod generating;
@@ -41,14 +42,16 @@ mod terminal;
 mod warnings;
 mod watching;
 
-use pst_cli::KnownSystem;
+use pst_cli::{KnownSystem, Status};
 use pst_samples::{Counter, Meet, Queue, Racy, Registry, Stuck};
 use pst_system::BoxedSystem;
 use running::SystemsResult;
+use std::alloc::Global;
 use std::io::IsTerminal;
 use std::process::ExitCode;
-use std::thread::Builder;
-use stop_file::StopFileWatch;
+use std::sync::Arc;
+use std::thread::{Builder, JoinHandle};
+use stop_file::StopFileState;
 use systems::{ChosenSystems, SystemsError};
 use terminal::Terminals;
 
@@ -95,48 +98,38 @@ const STACK_BYTES: usize = 256 << 20;
 
 /// Runs the subcommand on a thread of its own.
 ///
-/// The function is long because the boxed systems and a thread are made here: a function cannot return such a system,
-/// and only `main` may name the type of `rt`, which they take along.
+/// The function is long because the boxed systems and two threads are made here: a function cannot return such a system,
+/// and only `main` may name the type of `rt`, which systems and threads take along.
 fn main(rt: HostRuntime) -> ExitCode {
     // All work is done on a thread with a known stack size: the system's limit for the first thread may be too low.
     let worker = Builder::new()
         .stack_size(STACK_BYTES)
-        .spawn(&rt, move || -> u8 {
+        .spawn(&rt, move || -> Result<Status, Status> {
             let alloc = rt.alloc();
             let terminals = Terminals {
                 input: rt.stdin().is_terminal(),
                 output: rt.stdout().is_terminal(),
                 errors: rt.stderr().is_terminal(),
             };
-            let started = match arguments::read_program_arguments_or_refuse(&rt) {
-                Ok(started) => started,
-                Err(status) => return status.code(),
-            };
-            let matches = match arguments::parse_arguments_else_print_help_or_error(
+            let started = arguments::read_program_arguments_or_refuse(&rt)?;
+            let matches = arguments::parse_arguments_else_print_help_or_error(
                 &rt,
                 started.as_slice(),
-            ) {
-                Ok(matches) => matches,
-                Err(status) => return status.code(),
-            };
-            let prepared = match preparing::prepare_input_or_run_fmt(&rt, &matches, terminals) {
-                Ok(prepared) => prepared,
-                Err(status) => return status.code(),
-            };
-            let misfits = &prepared.misfits;
+            )?;
+            let prepared = preparing::prepare_input_or_run_fmt(&rt, &matches, terminals)?;
             let mut systems: SystemsResult = Ok(Vec::new(alloc));
             if let Some((wanted, count)) = systems::systems_and_count_from_arguments(&matches) {
                 for worker in 0..count {
                     let system: Result<BoxedSystem, SystemsError> = match wanted {
-                        ChosenSystems::Known(known) => known_system!(rt, alloc, misfits, known),
+                        ChosenSystems::Known(known) => known_system!(
+                            rt,
+                            alloc,
+                            &prepared.misfits,
+                            known
+                        ),
                         ChosenSystems::Clients(folder) =>
                             match clients::open_boxed_clients_for_worker(
-                                rt,
-                                &rt,
-                                folder,
-                                worker,
-                                prepared.input_with_items_as_trees().bytes,
-                                &prepared.notes,
+                                rt, &rt, folder, worker, &prepared,
                             ) {
                                 Ok(clients) => Ok(clients),
                                 Err(why) => Err(why),
@@ -145,41 +138,25 @@ fn main(rt: HostRuntime) -> ExitCode {
                     systems = systems_with_added_system(systems, system);
                 }
             }
-            let Ok(has_appeared) = stop_file::shared_flag_whether_stop_file_exists(
-                &rt, alloc, &matches,
-            ) else {
-                return refused::print_memory_refusal(&rt).code();
-            };
-            let shared = stop_file::stop_file_state_for_campaign_and_thread(
-                alloc,
-                &matches,
-                &has_appeared,
-            );
-            let stop_file = match shared {
-                Some((watched, own)) => match Builder::new()
-                    .spawn(&rt, move || stop_file::watch_for_stop_file(&rt, &own))
+            let start_thread = |watched: Arc<StopFileState, Global>| -> Option<JoinHandle<()>> {
+                Builder::new()
+                    .spawn(&rt, move || stop_file::watch_for_stop_file(&rt, &watched))
                     .ok()
-                {
-                    Some(thread) => Some(StopFileWatch::new(watched, thread)),
-                    None => None,
-                },
-                None => None,
             };
-            let status = running::run_subcommand_while_watching_clients(
+            Ok(running::run_subcommand_while_watching(
                 rt,
                 &matches,
                 &prepared,
                 terminals,
                 systems,
-                has_appeared,
-            );
-            if let Some(stop_file) = stop_file {
-                stop_file.end_thread_and_wait(&rt);
-            }
-            status.code()
+                &start_thread,
+            ))
         });
-    match worker {
-        Ok(worker) => ExitCode::from(worker.join(&rt)),
-        Err(_) => ExitCode::from(refused::print_memory_refusal(&rt).code()),
-    }
+    let status = match worker {
+        Ok(worker) => match worker.join(&rt) {
+            Ok(status) | Err(status) => status,
+        },
+        Err(_) => refused::print_memory_refusal(&rt),
+    };
+    ExitCode::from(status.code())
 }

@@ -12,6 +12,8 @@ use crate::reading::output_file_name_from_arguments;
 use crate::result_file::{
     ResultFileUnlessRefused, does_output_list_refused_items, open_or_create_file_without_emptying,
 };
+use crate::stop_file::{StopFileState, StopFileWatch};
+use crate::subcommands::{Subcommand, is_json_selected};
 use crate::systems::{SystemsError, system_name_from_arguments_or_empty};
 use crate::terminal::{Terminals, line_width_of_environment_or_default};
 use crate::{
@@ -26,13 +28,14 @@ use pst_messages::ItemInput;
 use pst_sexpr::{Out, Sink};
 use pst_sources::Input;
 use pst_system::BoxedSystem;
-use std::fs::{remove_file, symlink_metadata};
+use std::alloc::Global;
+use std::fs::{OpenFile, remove_file, symlink_metadata};
 use std::io;
 use std::io::Write;
 use std::rt::{Files, Runtime};
 use std::sync::atomic::AtomicBool;
 use std::sync::{Arc, Wait};
-use std::thread::Threads;
+use std::thread::{JoinHandle, Threads};
 use std::time::Clock;
 
 /// The systems that the arguments name.
@@ -71,6 +74,57 @@ fn run_subcommand_on_systems<
     }
 }
 
+/// Checks the model, with the output that the arguments select.
+fn run_check_subcommand<W: Sink>(
+    alloc: Global,
+    arguments: &ArgMatches<'_>,
+    input: Input<'_>,
+    out: &mut W,
+) -> Status
+    requires { W.broken out.old ≡ false }
+{
+    let Input { files: _, bytes } = input;
+    if !is_json_selected(arguments) {
+        return check_text(alloc, bytes, out);
+    }
+    let notices = json_notices::json_lines_of_notices_unless_quiet(alloc, arguments, &input);
+    check_with_json_output(alloc, bytes, notices.as_slice(), out)
+}
+
+/// Judges the items of the files, or those of standard input with `--stream`.
+fn judge_items_of_files_or_stream<
+    W: Sink,
+    R: Runtime + Threads + Wait + Sync + AllocGlobal + Copy + Drop + Send + 'static,
+>(
+    rt: &R,
+    context: SubcommandContext<'_, '_>,
+    arguments: &ArgMatches<'_>,
+    input: Input<'_>,
+    counts: &mut ItemResultCounts,
+    out: &mut W,
+) -> Status
+    requires { W.broken out.old ≡ false }
+{
+    let terminals = context.terminals;
+    if arguments.get_flag("stream") {
+        let Input { files: _, bytes } = input;
+        return streaming::judge_standard_input_with_messages(
+            rt, arguments, terminals, bytes, counts, out,
+        );
+    }
+    let read = context.files;
+    let input = ItemInput { trees: input, read };
+    run_judge_subcommand(
+        rt,
+        rt.alloc(),
+        arguments,
+        terminals.errors,
+        input,
+        counts,
+        out,
+    )
+}
+
 /// Runs the subcommand, writes its output to `out`, and counts the results of its items.
 fn run_subcommand<
     W: Sink,
@@ -85,34 +139,30 @@ fn run_subcommand<
 ) -> Status
     requires { W.broken out.old ≡ false }
 {
-    let Some((subcommand, arguments)) = context.matches.subcommand() else {
+    let Some((name, arguments)) = context.matches.subcommand() else {
         return Status::Refused;
     };
-    let (alloc, terminals) = (rt.alloc(), context.terminals);
+    let alloc = rt.alloc();
     let Input { files: _, bytes } = input;
-    match subcommand {
-        "check" if json_notices::is_check_with_json_output(subcommand, arguments) => {
-            let notices = json_notices::json_lines_of_notices_unless_quiet(
-                alloc, arguments, &input,
-            );
-            check_with_json_output(alloc, bytes, notices.as_slice(), out)
+    match Subcommand::named(name) {
+        Some(Subcommand::Check) => run_check_subcommand(alloc, arguments, input, out),
+        Some(Subcommand::List) => list_text(alloc, bytes, out),
+        Some(Subcommand::Generate) => {
+            generating::run_generate_subcommand(rt, arguments, bytes, out)
         }
-        "check" => check_text(alloc, bytes, out),
-        "list" => list_text(alloc, bytes, out),
-        "generate" => generating::run_generate_subcommand(rt, arguments, bytes, out),
-        "convert" => converting::run_convert_subcommand(alloc, arguments, bytes, out),
-        "judge" if arguments.get_flag("stream") => {
-            streaming::judge_standard_input_with_messages(
-                rt, arguments, terminals, bytes, counts, out,
-            )
+        Some(Subcommand::Convert) => {
+            converting::run_convert_subcommand(alloc, arguments, bytes, out)
         }
-        "judge" => {
-            let read = context.files;
-            let input = ItemInput { trees: input, read };
-            run_judge_subcommand(rt, alloc, arguments, terminals.errors, input, counts, out)
+        Some(Subcommand::Judge) => {
+            judge_items_of_files_or_stream(rt, context, arguments, input, counts, out)
         }
-        "explain" => explaining::run_explain_subcommand(rt, arguments, terminals, input, out),
-        _ => run_subcommand_on_systems(rt, context, arguments, input, systems, counts, out),
+        Some(Subcommand::Explain) => {
+            explaining::run_explain_subcommand(rt, arguments, context.terminals, input, out)
+        }
+        Some(Subcommand::Run | Subcommand::Campaign) => {
+            run_subcommand_on_systems(rt, context, arguments, input, systems, counts, out)
+        }
+        None => Status::Refused,
     }
 }
 
@@ -192,6 +242,32 @@ fn status_after_reporting_output_failure<R: Eprint + AllocGlobal>(
     }
 }
 
+/// Ends the output of a command with the status `status` to the file `name`: empties the file if the output is empty and
+/// no refusal, and removes it if nothing was written to it and it was not there before. `failure` is the error of the
+/// output, if it had one.
+fn status_after_ending_result_file<R: Runtime + AllocGlobal, F: Write + OpenFile + Drop>(
+    rt: &R,
+    mut output: ResultFileUnlessRefused<'_, R, F>,
+    name: &str,
+    was_there: bool,
+    status: Status,
+    failure: Option<io::Error>,
+) -> Status {
+    let failure = match failure {
+        Some(error) => Some(error),
+        None => output.empty_file_if_finished_without_output(status).err(),
+    };
+    if !output.has_chosen_file() && !was_there {
+        let _ = remove_file(rt, name);
+    }
+    let name = if output.has_chosen_standard_output() {
+        None
+    } else {
+        Some(name)
+    };
+    status_after_reporting_output_failure(rt, status, name, failure)
+}
+
 /// Runs the subcommand with its output to the file `name`. If the input is refused, its refusal goes to standard output,
 /// and the file stays as it was.
 fn run_subcommand_to_file_unless_refused<
@@ -206,43 +282,27 @@ fn run_subcommand_to_file_unless_refused<
     let was_there = symlink_metadata(rt, name).is_ok();
     let file = match open_or_create_file_without_emptying(rt, name) {
         Ok(file) => file,
-        Err(error) => return outputs::print_output_error_unless_pipe_closed(
+        Err(error) => return status_after_reporting_output_failure(
             rt,
-            rt.alloc(),
+            Status::Lost,
             Some(name),
-            &error,
+            Some(error),
         ),
     };
-    let mut result = ResultFileUnlessRefused::new(
+    let mut output = ResultFileUnlessRefused::new(
         rt,
         file,
         does_output_list_refused_items(context.matches),
     );
-    let terminals = context.terminals.with_output_in_a_file();
-    let context = SubcommandContext {
-        terminals,
-        ..context
-    };
+    let context = context.with_output_in_a_file();
     let (status, failure) = run_subcommand_with_writer_and_messages(
         rt,
         context,
         input,
         systems,
-        &mut result,
+        &mut output,
     );
-    let failure = match failure {
-        Some(error) => Some(error),
-        None => result.empty_file_if_finished_without_output(status).err(),
-    };
-    if !result.has_chosen_file() && !was_there {
-        let _ = remove_file(rt, name);
-    }
-    let name = if result.has_chosen_standard_output() {
-        None
-    } else {
-        Some(name)
-    };
-    status_after_reporting_output_failure(rt, status, name, failure)
+    status_after_ending_result_file(rt, output, name, was_there, status, failure)
 }
 
 /// Runs the subcommand with its output to the file that the arguments name, or to standard output.
@@ -264,7 +324,7 @@ fn run_subcommand_to_chosen_output<
 
 /// Runs the subcommand, while a thread looks for clients that do not answer. Then standard error has the notes of the
 /// clients, unless the arguments forbid it. `has_appeared` says whether the file is there that ends a campaign.
-pub fn run_subcommand_while_watching_clients<
+fn run_subcommand_while_watching_clients<
     R: Runtime + AllocGlobal + Threads + Wait + Sync + Copy + Drop + Send + 'static,
 >(
     rt: R,
@@ -295,5 +355,40 @@ pub fn run_subcommand_while_watching_clients<
         watch.end_thread_and_wait(&rt);
     }
     clients::print_client_notes_unless_quiet(&rt, matches, &prepared.notes);
+    status
+}
+
+/// Runs the subcommand, while threads look for the file that ends a campaign and for clients that do not answer.
+/// `start_thread` starts the thread that looks for the file.
+pub fn run_subcommand_while_watching<
+    R: Runtime + AllocGlobal + Threads + Wait + Sync + Copy + Drop + Send + 'static,
+    F: Fn(Arc<StopFileState, Global>) -> Option<JoinHandle<()>>,
+>(
+    rt: R,
+    matches: &ArgMatches<'_>,
+    prepared: &PreparedInput<'_>,
+    terminals: Terminals,
+    systems: SystemsResult,
+    start_thread: &F,
+) -> Status
+    requires { F.IsAlwaysCallable start_thread.now }
+{
+    let alloc = rt.alloc();
+    let Ok(has_appeared) = stop_file::shared_flag_whether_stop_file_exists(&rt, alloc, matches)
+    else {
+        return refused::print_memory_refusal(&rt);
+    };
+    let watch = StopFileWatch::start_if_file_is_named(alloc, matches, &has_appeared, start_thread);
+    let status = run_subcommand_while_watching_clients(
+        rt,
+        matches,
+        prepared,
+        terminals,
+        systems,
+        has_appeared,
+    );
+    if let Some(watch) = watch {
+        watch.end_thread_and_wait(&rt);
+    }
     status
 }

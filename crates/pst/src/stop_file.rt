@@ -1,5 +1,6 @@
 //! The end of a campaign when a file appears. The kit has no handler of signals: the launcher makes the file at Ctrl-C.
 
+use crate::end_signal::EndSignal;
 use crate::input;
 use clap::ArgMatches;
 use pst_campaign::EarlyStop;
@@ -7,8 +8,7 @@ use std::alloc::{AllocError, Global};
 use std::rt::Files;
 use std::sync::atomic::{AtomicBool, Ordering};
 use std::sync::{Arc, Wait};
-use std::thread::{JoinHandle, Parker, Threads};
-use std::time::Duration;
+use std::thread::{JoinHandle, Threads};
 
 /// How many milliseconds pass between two looks.
 const PAUSE: u64 = 100;
@@ -18,8 +18,7 @@ const PAUSE: u64 = 100;
 pub struct StopFileState {
     name: String,
     has_appeared: Arc<AtomicBool>,
-    is_over: AtomicBool,
-    parker: Parker,
+    end: EndSignal,
 }
 
 /// Looks for the file until it is there or the campaign is over.
@@ -29,12 +28,9 @@ pub fn watch_for_stop_file<R: Wait + Files>(rt: &R, watched: &StopFileState) {
             watched.has_appeared.store(true, Ordering::SeqCst);
             return;
         }
-        if watched.is_over.load(Ordering::SeqCst) {
+        if watched.end.wait(rt, PAUSE) {
             return;
         }
-        watched
-            .parker
-            .park_timeout(rt, Duration::from_millis(PAUSE));
     }
 }
 
@@ -66,35 +62,40 @@ pub fn shared_flag_whether_stop_file_exists<R: Files>(
     Ok(Some(Arc::new(alloc, AtomicBool::new(is_there))?))
 }
 
-/// Returns what the campaign and the thread that looks for the file share, once for each of them, if the arguments
-/// name a file.
-pub fn stop_file_state_for_campaign_and_thread(
+/// Returns what the campaign and the thread that looks for the file share, if the arguments name a file.
+fn stop_file_state_if_named(
     alloc: Global,
     matches: &ArgMatches<'_>,
     has_appeared: &Option<Arc<AtomicBool>>,
-) -> Option<(Arc<StopFileState, Global>, Arc<StopFileState, Global>)> {
+) -> Option<Arc<StopFileState, Global>> {
     let watched = StopFileState {
         name: String::from_str(alloc, stop_file_name_from_arguments(matches)?).ok()?,
         has_appeared: Arc::try_clone(has_appeared.as_ref()?).ok()?,
-        is_over: AtomicBool::new(false),
-        parker: Parker::new(),
+        end: EndSignal::new(),
     };
-    let watched = Arc::new(alloc, watched).ok()?;
-    let own = Arc::try_clone(&watched).ok()?;
-    Some((watched, own))
+    Arc::new(alloc, watched).ok()
 }
 
 impl StopFileWatch {
-    /// The thread that looks for the file, which `main` starts: only there is the handle known that it takes along.
-    pub fn new(watched: Arc<StopFileState, Global>, thread: JoinHandle<()>) -> StopFileWatch {
-        StopFileWatch { watched, thread }
+    /// Looks for the file that the arguments name, in a thread that `start_thread` starts: only `main` may name the type
+    /// of the handle that the thread takes along. `None` if the arguments name no file, or if there is no thread for it.
+    pub fn start_if_file_is_named<F: Fn(Arc<StopFileState, Global>) -> Option<JoinHandle<()>>>(
+        alloc: Global,
+        matches: &ArgMatches<'_>,
+        has_appeared: &Option<Arc<AtomicBool>>,
+        start_thread: &F,
+    ) -> Option<StopFileWatch>
+        requires { F.IsAlwaysCallable start_thread.now }
+    {
+        let watched = stop_file_state_if_named(alloc, matches, has_appeared)?;
+        let thread = start_thread(Arc::try_clone(&watched).ok()?)?;
+        Some(StopFileWatch { watched, thread })
     }
 
     /// Ends the thread, and waits for it.
     pub fn end_thread_and_wait<R: Threads + Wait>(self, rt: &R) {
         let StopFileWatch { watched, thread } = self;
-        watched.is_over.store(true, Ordering::SeqCst);
-        watched.parker.unpark();
+        watched.end.send();
         thread.join(rt)
     }
 }

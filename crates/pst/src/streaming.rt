@@ -4,12 +4,16 @@ ghost use Rattle.std.specs.Prelude.{◌≡◌, false};
 use crate::input::STANDARD_INPUT;
 use crate::item_progress::ItemProgressDisplay;
 use crate::line_messages::{MOST_LINES, RefusedLineMessages};
+use crate::outputs::print_file_error_to_stderr;
 use crate::terminal::Terminals;
 use clap::ArgMatches;
-use pst_cli::{Absence, ItemResultCounts, Status, count_items_of_input, judge_stream, refuse_text};
+use pst_cli::{
+    Absence, ItemResultCounts, ProgressCounter, Status, count_items_of_input, judge_stream,
+    refuse_text,
+};
 use pst_sexpr::Sink;
 use std::alloc::Global;
-use std::io::Input;
+use std::io::{self, ErrorKind, Input, Read};
 use std::sync::Wait;
 use std::thread::Threads;
 
@@ -82,6 +86,56 @@ fn print_count_of_refusals_without_message<R: Eprint>(rt: &R, refused: usize, mo
     }
 }
 
+/// A reader that keeps the last error of another reader, if it was no interruption.
+#[derive(Drop)]
+struct ReadErrorKeeper<I> {
+    reader: I,
+    failure: Option<io::Error>,
+}
+
+impl<I: Read> Read for ReadErrorKeeper<I> {
+    ghost remaining = { λ keeper. I.remaining keeper.reader };
+
+    fn read(&mut self, buf: &mut [u8]) -> io::Result<usize> {
+        match self.reader.read(buf) {
+            Ok(count) => Ok(count),
+            Err(error) => {
+                if error.kind() != ErrorKind::Interrupted {
+                    self.failure = Some(error);
+                }
+                Err(error)
+            }
+        }
+    }
+}
+
+/// Judges the items of standard input, one on each line, by the model at the beginning of `input`. Standard error says why
+/// standard input cannot be read, if that is so, unless `is_quiet`.
+fn judge_lines_of_standard_input<W: Sink, R: Threads + Wait + Sync + Input + Eprint + AllocGlobal>(
+    rt: &R,
+    input: &[u8],
+    counts: &mut ItemResultCounts,
+    steps: &ProgressCounter,
+    messages: &mut RefusedLineMessages<'_, R>,
+    is_quiet: bool,
+    out: &mut W,
+) -> Status
+    requires { W.broken out.old ≡ false }
+{
+    let alloc = rt.alloc();
+    let mut reader = ReadErrorKeeper {
+        reader: rt.reader(),
+        failure: None,
+    };
+    let status = judge_stream(rt, alloc, input, &mut reader, counts, steps, messages, out);
+    if let Some(error) = reader.failure {
+        if !is_quiet {
+            print_file_error_to_stderr(rt, alloc, "read", "standard input", &error);
+        }
+    }
+    status
+}
+
 /// Judges the items of standard input, one on each line, by the model at the beginning of `input`. If standard error is
 /// a terminal and standard output is not, a line displays how many are judged.
 /// Unless the arguments forbid messages, standard error has a message on each of the first refused lines, says how many
@@ -108,19 +162,17 @@ pub fn judge_standard_input_with_messages<
     let Ok(telling) = ItemProgressDisplay::begin(rt, alloc, has_progress_line, "judged") else {
         return refuse_text(Absence::NoMemory, out);
     };
-    let steps = telling.steps();
     let most = max_refusal_messages_from_arguments(arguments);
     let name = arguments.get_str("FILE").unwrap_or(STANDARD_INPUT);
     let mut messages = RefusedLineMessages::new(rt, name, input, most, has_progress_line);
-    let mut reader = rt.reader();
-    let status = judge_stream(
+    let steps = telling.steps();
+    let status = judge_lines_of_standard_input(
         rt,
-        alloc,
         input,
-        &mut reader,
         counts,
         steps,
         &mut messages,
+        is_quiet,
         out,
     );
     telling.end_thread_and_wait(rt);

@@ -12,6 +12,43 @@ pub use options::{
 pub use plan::{campaign_settings_from_arguments, settings_for_generate_from_arguments};
 use std::alloc::{AllocError, Global};
 
+/// The subcommands that have an input and an output.
+#[derive(Clone, Copy, Drop)]
+pub enum Subcommand {
+    Check,
+    List,
+    Generate,
+    Convert,
+    Judge,
+    Explain,
+    Run,
+    Campaign,
+}
+
+/// The names of the subcommands in the arguments.
+const NAMES: [(&str, Subcommand); 8] = [
+    ("check", Subcommand::Check),
+    ("list", Subcommand::List),
+    ("generate", Subcommand::Generate),
+    ("convert", Subcommand::Convert),
+    ("judge", Subcommand::Judge),
+    ("explain", Subcommand::Explain),
+    ("run", Subcommand::Run),
+    ("campaign", Subcommand::Campaign),
+];
+
+impl Subcommand {
+    /// Returns the subcommand with the name `name`, if there is one.
+    pub fn named(name: &str) -> Option<Subcommand> {
+        for (known, subcommand) in NAMES {
+            if known == name {
+                return Some(subcommand);
+            }
+        }
+        None
+    }
+}
+
 /// A command whose input is the file of a model.
 fn clap_command_with_model_file<'a>(
     alloc: Global,

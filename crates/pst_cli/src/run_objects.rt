@@ -12,6 +12,7 @@ use crate::repeat::first_failed_or_latest_drive_counts;
 use crate::status::Status;
 use pst_case::{Run, Shaped};
 use pst_compile::Compiled;
+use pst_driver::DriveFault;
 use pst_judge::{Judged, Valid, Why, valid};
 use pst_rejudge::{
     Field, FieldName, ProgressCounter, add_number_field, add_text_field, json_object_line,
@@ -53,6 +54,55 @@ fn first_failed_or_latest_report(
     }
 }
 
+/// What the drives of a case came to so far.
+#[derive(Drop)]
+struct DrivesSoFar {
+    /// The report to show, if the case was driven.
+    shown: Option<ItemReport>,
+    /// The counts of the drive of this report.
+    own: ItemResultCounts,
+    /// How many drives failed.
+    failed: u32,
+}
+
+impl DrivesSoFar {
+    /// No drive.
+    fn new() -> DrivesSoFar {
+        DrivesSoFar {
+            shown: None,
+            own: ItemResultCounts::new(),
+            failed: 0,
+        }
+    }
+
+    /// The same and one more drive.
+    fn with_drive(self, report: ItemReport, drive: ItemResultCounts) -> DrivesSoFar {
+        let DrivesSoFar { shown, own, failed } = self;
+        let has_failed = status_of_item_report(&report) != Status::Accepted;
+        DrivesSoFar {
+            shown: Some(first_failed_or_latest_report(shown, failed, report)),
+            own: first_failed_or_latest_drive_counts(failed, own, drive),
+            failed: failed.saturating_add(u32::from(has_failed)),
+        }
+    }
+}
+
+/// Drives a copy of a valid case once, and returns the report of its item.
+fn drive_copy_of_valid_case<R: Threads + Wait>(
+    rt: &R,
+    alloc: Global,
+    compiled: &Compiled,
+    system: &mut BoxedSystem,
+    number: usize,
+    valid: &Valid,
+    drive: &mut ItemResultCounts,
+) -> Result<ItemReport, AllocError>
+    requires { valid.now.model ≡ compiled.now }
+{
+    let copy = valid.copy(alloc, compiled.typed().source())?;
+    drive_case_and_report_item(rt, alloc, compiled, system, number, copy, drive)
+}
+
 /// Drives a valid case `repeats` times, or until a drive is lost, and returns the report to show. Adds to `counts` only
 /// the drive of this report. Returns `AllocError` if `repeats` is 0.
 fn drive_valid_case_repeatedly<R: Threads + Wait>(
@@ -67,14 +117,11 @@ fn drive_valid_case_repeatedly<R: Threads + Wait>(
 ) -> Result<ReportWithDriveCounts, AllocError>
     requires { valid.now.model ≡ compiled.now }
 {
-    let mut shown: Option<ItemReport> = None;
-    let mut own = ItemResultCounts::new();
-    let mut failed = 0u32;
+    let mut so_far = DrivesSoFar::new();
     for _drive in 0..repeats {
-        let copy = valid.copy(alloc, compiled.typed().source())?;
         let mut drive = ItemResultCounts::new();
-        let report = drive_case_and_report_item(
-            rt, alloc, compiled, system, number, copy, &mut drive,
+        let report = drive_copy_of_valid_case(
+            rt, alloc, compiled, system, number, valid, &mut drive,
         )?;
         if let ItemReport::Lost(_) = report {
             counts.add_counts_and_first_broken_run(drive);
@@ -83,22 +130,16 @@ fn drive_valid_case_repeatedly<R: Threads + Wait>(
                 drives: None,
             });
         }
-        let has_failed = status_of_item_report(&report) != Status::Accepted;
-        own = first_failed_or_latest_drive_counts(failed, own, drive);
-        shown = Some(first_failed_or_latest_report(shown, failed, report));
-        failed = failed.saturating_add(u32::from(has_failed));
+        so_far = so_far.with_drive(report, drive);
     }
+    let DrivesSoFar { shown, own, failed } = so_far;
     counts.add_counts_and_first_broken_run(own);
-    match shown {
-        Some(report) => Ok(ReportWithDriveCounts {
-            report,
-            drives: Some(Drives {
-                all: repeats,
-                failed,
-            }),
-        }),
-        None => Err(AllocError),
-    }
+    let report = shown.ok_or(AllocError)?;
+    let drives = Some(Drives {
+        all: repeats,
+        failed,
+    });
+    Ok(ReportWithDriveCounts { report, drives })
 }
 
 /// Drives a valid case, once or as often as `repeats` says.
@@ -178,6 +219,31 @@ fn add_run_tree_field(fields: &mut Vec<Field>, line: Vec<u8>) -> Result<(), Allo
     }
 }
 
+/// The fields of an item whose case was driven: its verdict, and the run as a tree.
+fn driven_item_fields(
+    alloc: Global,
+    number: usize,
+    line: Vec<u8>,
+    judged: &Judged,
+) -> Result<Vec<Field>, AllocError> {
+    let mut fields = judged_item_fields(alloc, number, judged)?;
+    add_run_tree_field(&mut fields, line)?;
+    Ok(fields)
+}
+
+/// The fields of an item whose case was lost.
+fn lost_item_fields(
+    alloc: Global,
+    number: usize,
+    fault: DriveFault,
+) -> Result<Vec<Field>, AllocError> {
+    let mut fields = Vec::new(alloc);
+    add_number_field(&mut fields, FieldName::Item, number as u64)?;
+    add_text_field(alloc, &mut fields, FieldName::Verdict, "lost")?;
+    add_text_field(alloc, &mut fields, FieldName::Fault, fault.name())?;
+    Ok(fields)
+}
+
 /// The members of the object of an item.
 fn item_report_fields(
     alloc: Global,
@@ -185,19 +251,9 @@ fn item_report_fields(
     report: ItemReport,
 ) -> Result<Vec<Field>, AllocError> {
     match report {
-        ItemReport::Driven { line, judged } => {
-            let mut fields = judged_item_fields(alloc, number, &judged)?;
-            add_run_tree_field(&mut fields, line)?;
-            Ok(fields)
-        }
+        ItemReport::Driven { line, judged } => driven_item_fields(alloc, number, line, &judged),
         ItemReport::Invalid(why) => judged_item_fields(alloc, number, &Judged::Invalid(why)),
-        ItemReport::Lost(fault) => {
-            let mut fields = Vec::new(alloc);
-            add_number_field(&mut fields, FieldName::Item, number as u64)?;
-            add_text_field(alloc, &mut fields, FieldName::Verdict, "lost")?;
-            add_text_field(alloc, &mut fields, FieldName::Fault, fault.name())?;
-            Ok(fields)
-        }
+        ItemReport::Lost(fault) => lost_item_fields(alloc, number, fault),
     }
 }
 

@@ -5,8 +5,7 @@ ghost use Rattle.pst_reasons.specs.Reasons.{AreRising, IsCore, IsCoreSoFar, IsIm
 
 use crate::asked::SomePostconditions;
 use crate::numbers::{
-    append_numbers_without, command_numbers_up_to, count_case_commands, empty_command_number_list,
-    split_last_number,
+    command_numbers_up_to, count_case_commands, empty_command_number_list, split_last_number,
 };
 use crate::recorded::RecordedRun;
 use pst_eval::Callbacks;

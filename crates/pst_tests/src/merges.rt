@@ -239,6 +239,30 @@ const CASES: [LampSearchCase; 11] = [
     },
 ];
 
+/// What `some` returns for the lamp, which is off, as text.
+fn answer_of_some(alloc: Global, lamp: &Lamp, lengths: &[usize]) -> Result<String, AllocError>
+    requires { sum lengths.now + 1 < 2 ^ 32 }
+{
+    let (answer, _) = some(alloc, lamp, lengths, &false)?;
+    format!(in alloc; "{answer:?}")
+}
+
+/// What the plain search returns for the lamp, which is off, as text.
+fn answer_of_plain(alloc: Global, lamp: &Lamp, lengths: &[usize]) -> Result<String, AllocError>
+    requires { sum lengths.now + 1 < 2 ^ 32 }
+{
+    let (answer, _) = find_first_true_interleaving_plainly(alloc, lamp, lengths, &false)?;
+    format!(in alloc; "{answer:?}")
+}
+
+/// What `every` returns for the lamp, which is off, as text.
+fn answer_of_every(alloc: Global, lamp: &Lamp, lengths: &[usize]) -> Result<String, AllocError>
+    requires { sum lengths.now + 1 < 2 ^ 32 }
+{
+    let (answer, _) = every(alloc, lamp, lengths, &false)?;
+    format!(in alloc; "{answer:?}")
+}
+
 /// Whether the searches return what `case` expects over branches of these lengths.
 fn do_searches_return_expected_answers(
     alloc: Global,
@@ -248,14 +272,11 @@ fn do_searches_return_expected_answers(
     requires { sum lengths.now + 1 < 2 ^ 32 }
 {
     let lamp = Lamp::new(case.commands, case.ends_true_if_on);
-    let (some_answer, _) = some(alloc, &lamp, lengths, &false)?;
-    let (plain, _) = find_first_true_interleaving_plainly(alloc, &lamp, lengths, &false)?;
-    let (every_answer, _) = every(alloc, &lamp, lengths, &false)?;
-    Ok(
-        format!(in alloc; "{some_answer:?}")?.as_str() == case.some
-            && format!(in alloc; "{plain:?}")?.as_str() == case.some
-            && format!(in alloc; "{every_answer:?}")?.as_str() == case.every,
-    )
+    let some_answer = answer_of_some(alloc, &lamp, lengths)?;
+    let plain = answer_of_plain(alloc, &lamp, lengths)?;
+    let every_answer = answer_of_every(alloc, &lamp, lengths)?;
+    let found = [some_answer.as_str(), plain.as_str(), every_answer.as_str()];
+    Ok(found == [case.some, case.some, case.every])
 }
 
 /// Whether the searches return what `case` expects, for at most three branches of at most eight commands each.
@@ -289,6 +310,38 @@ fn lamp_searches_return_expected_answers(rt: HostRuntime) -> Result<(), Fail> {
     Ok(())
 }
 
+/// Whether `some` finds nothing after `far` commands, in at most `most` steps, which the lamp, new and off, counts too.
+fn does_some_count_steps_within_limit(
+    alloc: Global,
+    lamp: &Lamp,
+    lengths: &[usize],
+    far: usize,
+    most: usize,
+) -> Result<bool, AllocError>
+    requires { sum lengths.now + 1 < 2 ^ 32 }
+{
+    let (answer, tried) = some(alloc, lamp, lengths, &false)?;
+    let reached = match answer {
+        SomeAnswer::Nothing { far: reached, .. } => Some(reached),
+        _ => None,
+    };
+    Ok(reached == Some(far) && tried <= most && tried == lamp.steps_made.get())
+}
+
+/// Whether `every` holds in at most `most` steps, which the lamp counts too. The lamp is new, and on if `is_on`.
+fn does_every_count_steps_within_limit(
+    alloc: Global,
+    lamp: &Lamp,
+    lengths: &[usize],
+    is_on: bool,
+    most: usize,
+) -> Result<bool, AllocError>
+    requires { sum lengths.now + 1 < 2 ^ 32 }
+{
+    let (answer, seen) = every(alloc, lamp, lengths, &is_on)?;
+    Ok(matches!(answer, EveryAnswer::All) && seen <= most && seen == lamp.steps_made.get())
+}
+
 /// Whether `some` finds nothing after `far` commands, in at most `most` steps, if the event of the command `last` is
 /// false or, with `ends_true_if_on`, what runs after the branches is; and `every` holds in as few if all of it is true. The
 /// lamp counts its steps as the searches do.
@@ -303,21 +356,16 @@ fn do_searches_count_steps_within_limit(
     requires { sum lengths.now + 1 < 2 ^ 32 }
 {
     let dark = Lamp::new([NONE, NONE, last, NONE], ends_true_if_on);
-    let (nothing, tried) = some(alloc, &dark, lengths, &false)?;
     let lit = Lamp::new([NONE, NONE, NONE, NONE], ends_true_if_on);
-    let (all, seen) = every(alloc, &lit, lengths, &ends_true_if_on)?;
-    let is_far = match nothing {
-        SomeAnswer::Nothing { far: reached, .. } => reached == far,
-        _ => false,
-    };
-    Ok(
-        is_far
-            && matches!(all, EveryAnswer::All)
-            && tried <= most
-            && seen <= most
-            && tried == dark.steps_made.get()
-            && seen == lit.steps_made.get(),
-    )
+    let do_some = does_some_count_steps_within_limit(alloc, &dark, lengths, far, most)?;
+    let do_every = does_every_count_steps_within_limit(
+        alloc,
+        &lit,
+        lengths,
+        ends_true_if_on,
+        most,
+    )?;
+    Ok(do_some && do_every)
 }
 
 // Two branches of eight and four of four. All events are true, or all but the last of the last branch.

@@ -48,6 +48,15 @@ fn registry_operations_have_expected_parts(rt: HostRuntime) -> Result<(), Fail> 
     Ok(())
 }
 
+/// How many items a list has, and the turns left.
+fn item_count_and_turns(alloc: Global, list: &Value, turns: u32) -> Result<String, AllocError> {
+    let Value::List(items) = list else {
+        return String::from_str(alloc, "no list");
+    };
+    let count = items.len();
+    format!(in alloc; "{count} {turns}")
+}
+
 /// How many calls are listed in the initial state, and the turns left.
 fn initial_call_count_turns_or_fault(alloc: Global, typed: &Typed) -> Result<String, AllocError> {
     let plain = Plain::new(typed);
@@ -59,11 +68,7 @@ fn initial_call_count_turns_or_fault(alloc: Global, typed: &Typed) -> Result<Str
         Ok(listed) => listed,
         Err(fault) => return String::from_str(alloc, fault.name()),
     };
-    let Value::List(calls) = calls else {
-        return String::from_str(alloc, "no list");
-    };
-    let count = calls.len();
-    format!(in alloc; "{count} {turns}")
+    item_count_and_turns(alloc, &calls, turns)
 }
 
 #[test]

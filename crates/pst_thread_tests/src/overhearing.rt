@@ -8,8 +8,9 @@ use pst_tests::support::{COUNTER, SAYING};
 use pst_tests::systems::{CounterWithoutGet, Liar};
 use pst_typing::load;
 use std::alloc::{AllocError, Global};
-use std::sync::Arc;
+use std::sync::{Arc, Wait};
 use std::test::Fail;
+use std::thread::Threads;
 
 /// Two calls at once, to both of which a liar answers true.
 const TWO_MISFITS: &str =
@@ -24,6 +25,36 @@ fn empty_misfits_for_model(alloc: Global, model: &str) -> Result<Arc<Misfits, Gl
     Ok(Arc::new(alloc, misfits)?)
 }
 
+/// How many of five drives of the two calls give the recorded replies on the system.
+fn count_right_drives_out_of_five<R: Threads + Wait>(
+    rt: &R,
+    alloc: Global,
+    system: &mut BoxedSystem,
+) -> u32 {
+    let mut count: u32 = 0;
+    for _ in 0..5u8 {
+        if has_recorded_replies_when_driven(rt, alloc, COUNTER, TWO_MISFITS, system) == Some(true) {
+            count = count.saturating_add(1);
+        }
+    }
+    count
+}
+
+/// How many misfits there are, how many lines tell of `get`, and whether the last line says that there are two more.
+fn misfit_count_line_count_and_has_two_more(
+    alloc: Global,
+    misfits: &Misfits,
+) -> Result<(u64, usize, bool), AllocError> {
+    let text = misfit_lines_text(alloc, misfits)?;
+    let line = "misfit: (get) answered true, wanted int";
+    let lines = text.as_str().lines().filter(|other| *other == line).count();
+    Ok((
+        misfits.count(),
+        lines,
+        text.as_str().ends_with("\nmisfit: 2 more\n"),
+    ))
+}
+
 /// Five times a misfit in each of two branches at once: eight of the ten are kept, and the replies are those of the
 /// system.
 #[test]
@@ -31,18 +62,10 @@ fn eight_of_ten_misfits_are_kept(rt: HostRuntime) -> Result<(), Fail> {
     let alloc = rt.alloc();
     let misfits = empty_misfits_for_model(alloc, COUNTER)?;
     let mut liar: BoxedSystem = Box::new(alloc, MisfitRecorder::new(Liar, Some(misfits.clone()?)))?;
-    for _ in 0..5u8 {
-        assert!(rt;
-            has_recorded_replies_when_driven(&rt, alloc, COUNTER, TWO_MISFITS, &mut liar)
-                == Some(true)
-        );
-    }
-    assert_eq!(rt; misfits.count(), 10);
-    let text = misfit_lines_text(alloc, &misfits)?;
-    let line = "misfit: (get) answered true, wanted int";
-    let lines = text.as_str().lines().filter(|other| *other == line).count();
-    assert_eq!(rt; lines, MOST_KEPT);
-    assert!(rt; text.as_str().ends_with("\nmisfit: 2 more\n"));
+    let right = count_right_drives_out_of_five(&rt, alloc, &mut liar);
+    assert_eq!(rt; right, 5);
+    let told = misfit_count_line_count_and_has_two_more(alloc, &misfits)?;
+    assert_eq!(rt; told, (10, MOST_KEPT, true));
     Ok(())
 }
 

@@ -21,6 +21,18 @@ fn real_call_with_integer_arguments(
     Ok(RealCall { op: 0, name, args })
 }
 
+/// The system's answer to the call of that name with integers as arguments, after a space.
+fn answer_to_call(
+    alloc: Global,
+    system: &BoxedSystem,
+    name: &str,
+    numbers: &[i64],
+) -> Result<String, AllocError> {
+    let call = real_call_with_integer_arguments(alloc, name, numbers)?;
+    let answer = call_boxed_system(system, 0, &call);
+    format!(in alloc; " {answer:?}")
+}
+
 /// The system's answers to the calls in order, each after a space.
 fn answers_to_calls(
     alloc: Global,
@@ -29,9 +41,7 @@ fn answers_to_calls(
 ) -> Result<String, AllocError> {
     let mut text = String::new(alloc);
     for (name, numbers) in calls {
-        let call = real_call_with_integer_arguments(alloc, name, numbers)?;
-        let answer = call_boxed_system(system, 0, &call);
-        write!(&mut text, " {answer:?}")?;
+        text.push_str(answer_to_call(alloc, system, name, numbers)?.as_str())?;
     }
     Ok(text)
 }

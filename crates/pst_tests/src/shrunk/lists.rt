@@ -1,10 +1,20 @@
 //! Lists of shrink candidates, complete and in order, worked out by hand.
 
 use crate::shrunk::cases::{case_of_short_text, is_case_small_enough_to_shrink};
+use pst_case::Case;
 use pst_shrink::candidates;
 use std::alloc::{AllocError, Global};
 use std::process::Abort;
 use std::test::Fail;
+
+/// The cases of texts, in their order.
+fn cases_of_short_texts(alloc: Global, texts: &[&str]) -> Result<Vec<Case>, AllocError> {
+    let mut cases = Vec::new(alloc);
+    for text in texts {
+        cases.push(case_of_short_text(alloc, text)?)?;
+    }
+    Ok(cases)
+}
 
 /// Asserts that the case of a text has just these candidates.
 fn assert_shrink_candidates(
@@ -16,11 +26,11 @@ fn assert_shrink_candidates(
     let case = case_of_short_text(alloc, text)?;
     assert!(rt; is_case_small_enough_to_shrink(&case));
     let found = candidates(alloc, &case)?;
-    assert_eq!(rt; found.len(), expected.len());
-    for (found, text) in found.as_slice().iter().zip(expected) {
-        let expected = case_of_short_text(alloc, text)?;
-        assert!(rt; *found == expected, "not the candidate {text}");
-    }
+    let expected = cases_of_short_texts(alloc, expected)?;
+    assert!(rt;
+        found.as_slice() == expected.as_slice(),
+        "other candidates of {text}"
+    );
     Ok(())
 }
 

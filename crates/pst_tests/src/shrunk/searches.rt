@@ -108,9 +108,8 @@ fn a_limit_stops_shrinking_a_case(rt: HostRuntime) -> Result<(), Fail> {
     ];
     for (limit, steps, history, ending) in rows {
         let shrunk = shrink_case_of_two_commands(rt.alloc(), limit, 10).ok_or("no case")??;
-        assert_eq!(rt; shrunk.before.len(), steps, "at {limit}");
-        assert_eq!(rt; shrunk.last.history, history, "at {limit}");
-        assert!(rt; shrunk.ending == ending, "at {limit}");
+        let ended = (shrunk.before.len(), shrunk.last.history, shrunk.ending);
+        assert_eq!(rt; ended, (steps, history, ending), "at {limit}");
     }
     Ok(())
 }

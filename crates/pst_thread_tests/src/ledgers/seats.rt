@@ -1,9 +1,10 @@
 //! Seats that claim when nothing is left, and that come back in any order.
-ghost use Rattle.std.specs.Prelude.{◌≡◌};
+ghost use Rattle.std.specs.Prelude.{◌≡◌, None};
 
 use crate::ledgers::notes::NumberRecord;
 use pst_ledger::{Cause, Closed, Entry, Ledger, Seat};
 use std::alloc::{AllocError, Global};
+use std::process::Abort;
 use std::test::Fail;
 
 /// Closes a ledger with three seats, which come back in this order.
@@ -48,43 +49,49 @@ fn close_ledger_in_seat_order(
     }
 }
 
-/// Closes a ledger of three numbers. The first seat ends its own and claims twice more, the second loses its
-/// own, and the third still holds its own. `order` says in which order the seats come back. `None` if a call
-/// answers otherwise.
-fn use_and_close_ledger_in_order(
-    alloc: Global,
-    order: u8,
-) -> Result<Option<Closed<NumberRecord>>, AllocError> {
-    let (ledger, mut seats) = Ledger::<NumberRecord>::open(alloc, 3, 3)?;
-    let Some(mut third) = seats.pop() else {
-        return Ok(None);
-    };
-    let Some(mut second) = seats.pop() else {
-        return Ok(None);
-    };
-    let Some(mut first) = seats.pop() else {
-        return Ok(None);
-    };
+/// The calls of three seats on a ledger of three numbers. The first seat ends its own and claims twice more, the
+/// second loses its own, and the third still holds its own.
+fn assert_ledger_answers_three_seats<A: Abort>(
+    rt: &A,
+    ledger: &Ledger<NumberRecord>,
+    mut first: Seat<NumberRecord>,
+    mut second: Seat<NumberRecord>,
+    mut third: Seat<NumberRecord>,
+) -> (Seat<NumberRecord>, Seat<NumberRecord>, Seat<NumberRecord>)
+    requires first { (first.table ≡ ledger.now.table) × (first.held ≡ None) }
+    requires second { (second.table ≡ ledger.now.table) × (second.held ≡ None) }
+    requires third { (third.table ≡ ledger.now.table) × (third.held ≡ None) }
+    ensures first { result.0.table ≡ ledger.now.table }
+    ensures second { result.1.table ≡ ledger.now.table }
+    ensures third { result.2.table ≡ ledger.now.table }
+{
     let drawn = (
         ledger.claim(&mut first),
         ledger.claim(&mut second),
         ledger.claim(&mut third),
     );
-    if drawn != (Some(0), Some(1), Some(2)) {
-        return Ok(None);
-    }
-    if ledger.lose(&mut second, 1, Cause::NoThread).is_err() {
-        return Ok(None);
-    }
-    if ledger.deposit(&mut first, NumberRecord(0)).is_err() {
-        return Ok(None);
-    }
-    if ledger.claim(&mut first).is_some() {
-        return Ok(None);
-    }
-    if ledger.claim(&mut first).is_some() {
-        return Ok(None);
-    }
+    assert!(rt; drawn == (Some(0), Some(1), Some(2)));
+    assert!(rt; ledger.lose(&mut second, 1, Cause::NoThread).is_ok());
+    assert!(rt; ledger.deposit(&mut first, NumberRecord(0)).is_ok());
+    assert!(rt; ledger.claim(&mut first).is_none());
+    assert!(rt; ledger.claim(&mut first).is_none());
+    (first, second, third)
+}
+
+/// Closes a ledger of three numbers after those calls of its three seats. `order` says in which order the seats come
+/// back.
+fn use_and_close_ledger_in_order<A: Abort>(
+    rt: &A,
+    alloc: Global,
+    order: u8,
+) -> Result<Option<Closed<NumberRecord>>, AllocError> {
+    let (ledger, mut seats) = Ledger::<NumberRecord>::open(alloc, 3, 3)?;
+    let third = seats.pop().expect(rt, "a third seat");
+    let second = seats.pop().expect(rt, "a second seat");
+    let first = seats.pop().expect(rt, "a first seat");
+    let (first, second, third) = assert_ledger_answers_three_seats(
+        rt, &ledger, first, second, third,
+    );
     close_ledger_in_seat_order(alloc, order, ledger, first, second, third)
 }
 
@@ -96,8 +103,8 @@ fn seats_come_back_in_any_order(rt: HostRuntime) -> Result<(), Fail> {
         Entry::Held,
     ];
     for order in 0..6u8 {
-        let Some(closed) = use_and_close_ledger_in_order(rt.alloc(), order)? else {
-            return Err(Fail::new("a call of a seat has another answer"));
+        let Some(closed) = use_and_close_ledger_in_order(&rt, rt.alloc(), order)? else {
+            return Err(Fail::new("a seat is missing"));
         };
         assert!(rt; closed.entries() == expected.as_slice(), "in order {order}");
     }

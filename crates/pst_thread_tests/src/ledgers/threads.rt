@@ -29,6 +29,16 @@ fn claim_and_deposit_until_none_left<R: Wait>(
     unreachable!()
 }
 
+/// Whether the entries are the records of the numbers from 0 on, in order.
+fn are_entries_records_in_order(entries: &[Entry<NumberRecord>]) -> bool {
+    for (number, entry) in entries.iter().enumerate() {
+        if !matches!(entry, Entry::Done(note) if note.0 == number as u64) {
+            return false;
+        }
+    }
+    true
+}
+
 #[test]
 fn sixteen_threads_draw_each_number_once(rt: HostRuntime) -> Result<(), Fail> {
     let (ledger, seats) = Ledger::<NumberRecord>::open(rt.alloc(), 100_000, 16)?;
@@ -45,9 +55,7 @@ fn sixteen_threads_draw_each_number_once(rt: HostRuntime) -> Result<(), Fail> {
     let Ok(closed) = ledger.close(back) else {
         panic!(rt; "a seat is missing")
     };
-    for (number, entry) in closed.entries().iter().enumerate() {
-        assert!(rt; matches!(entry, Entry::Done(note) if note.0 == number as u64));
-    }
     assert!(rt; closed.entries().len() == 100_000);
+    assert!(rt; are_entries_records_in_order(closed.entries()));
     Ok(())
 }

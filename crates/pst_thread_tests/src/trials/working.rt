@@ -42,6 +42,18 @@ fn run_all_trials_by_one_worker<R: Threads + Wait + Sync>(
     ledger.close(seats).ok()
 }
 
+/// The outcome of the trial of the number alone on the system that answers 0, as text.
+fn outcome_of_trial_alone<R: Threads + Wait>(
+    rt: &R,
+    alloc: Global,
+    plan: &Arc<Plan>,
+    number: u64,
+) -> Option<String> {
+    let mut stuck: BoxedSystem = Box::new(alloc, Stuck).ok()?;
+    let alone = trial(rt, alloc, plan, number, &mut stuck).ok()?;
+    format!(in alloc; "{:?}", alone.outcome()).ok()
+}
+
 /// Whether an entry is the record of the number, with the outcome of its trial alone on the system that answers 0.
 fn is_record_same_when_run_alone<R: Threads + Wait>(
     rt: &R,
@@ -53,9 +65,7 @@ fn is_record_same_when_run_alone<R: Threads + Wait>(
     let Entry::Done(record) = entry else {
         return Some(false);
     };
-    let mut stuck: BoxedSystem = Box::new(alloc, Stuck).ok()?;
-    let alone = trial(rt, alloc, plan, number, &mut stuck).ok()?;
-    let wanted = format!(in alloc; "{:?}", alone.outcome()).ok()?;
+    let wanted = outcome_of_trial_alone(rt, alloc, plan, number)?;
     let outcome = format!(in alloc; "{:?}", record.outcome()).ok()?;
     Some(record.number() == number && outcome.as_str() == wanted.as_str())
 }
