@@ -183,7 +183,9 @@ fn print_campaign_explanations_and_warnings_to_stderr<R: Eprint>(
     settings: Settings,
     options: CampaignOptions<'_>,
     notes: &mut CampaignNotes,
-) {
+)
+    requires { AreInRange settings }
+{
     let Input { files, bytes } = options.input;
     campaign_messages::print_campaign_explanations_to_stderr(
         rt,
