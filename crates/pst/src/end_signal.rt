@@ -27,7 +27,7 @@ impl EndSignal {
         self.parker.unpark();
     }
 
-    /// Waits for the signal, at most so many milliseconds, and returns whether it is sent.
+    /// Waits for the signal, at most `milliseconds`, and returns whether it is sent.
     pub fn wait<R: Wait>(&self, rt: &R, milliseconds: u64) -> bool {
         self.parker
             .park_timeout(rt, Duration::from_millis(milliseconds));
