@@ -6,7 +6,7 @@ use clap::{Arg, ArgAction, ArgMatches, Command};
 use pst_cli::{Status, refuse_text};
 use pst_messages::{MessageScope, input_error_messages_text};
 use pst_print::format_file;
-use pst_sexpr::{FaultKind, Out, SexprFault, read};
+use pst_sexpr::{FaultKind, MAX_BYTES, Out, SexprFault, read};
 use pst_sources::SourceFile;
 use pst_typing::Refusal;
 use std::alloc::{AllocError, Global};
@@ -246,6 +246,22 @@ fn keep_or_refuse_file_with_json_items<R: Runtime + AllocGlobal>(
     check_print_or_rewrite_file(rt, file, file.bytes.as_slice(), options)
 }
 
+/// Leaves a file as it is that would have too many bytes if it were laid out. Prints the text of standard input as it is,
+/// unless `options` only checks.
+fn keep_file_too_large_when_laid_out<R: Runtime + AllocGlobal>(
+    rt: &R,
+    file: &SourceFile<'_>,
+    options: FormatOptions,
+) -> Status {
+    let name = file.name;
+    if !options.reading.is_quiet {
+        let _ = eprintln!(rt;
+            "pst: {name} would have more than {MAX_BYTES} bytes if it were laid out, so it stays as it is"
+        );
+    }
+    check_print_or_rewrite_file(rt, file, file.bytes.as_slice(), options)
+}
+
 /// Lays out the file `name`.
 fn format_or_check_file_by_name<R: Runtime + AllocGlobal>(
     rt: &R,
@@ -264,7 +280,8 @@ fn format_or_check_file_by_name<R: Runtime + AllocGlobal>(
         return keep_or_refuse_file_with_json_items(rt, file, options);
     }
     match format_file(rt.alloc(), bytes) {
-        Ok(text) => check_print_or_rewrite_file(rt, file, text.as_slice(), options),
+        Ok(Some(text)) => check_print_or_rewrite_file(rt, file, text.as_slice(), options),
+        Ok(None) => keep_file_too_large_when_laid_out(rt, file, options),
         Err(fault) => print_refusal_of_malformed_file(rt, files.as_slice(), bytes, fault, options),
     }
 }

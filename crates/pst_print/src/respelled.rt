@@ -3,7 +3,7 @@
 use crate::layout::Layout;
 use crate::measure::measure_tree_at_each_token;
 use crate::tokens::{Token, read_layout_tokens, trimmed_token_bytes};
-use pst_sexpr::{SexprFault, Tree, read};
+use pst_sexpr::{MAX_BYTES, SexprFault, Tree, read};
 use std::alloc::{AllocError, Global};
 
 /// The tokens of a file on new lines.
@@ -57,17 +57,21 @@ fn are_same_trees(first: &[Tree], second: &[Tree]) -> bool {
 /// The result has the same tokens and comments, and spells the same trees. The function checks this, and returns the
 /// file unchanged if the check fails.
 ///
-/// If the file cannot be read, the function returns the fault of `read`.
-pub fn format_file(alloc: Global, input: &[u8]) -> Result<Vec<u8>, SexprFault> {
+/// Returns `None` if the file laid out would have more than `MAX_BYTES` bytes. If the file cannot be read, the function
+/// returns the fault of `read`.
+pub fn format_file(alloc: Global, input: &[u8]) -> Result<Option<Vec<u8>>, SexprFault> {
     let trees = read(alloc, input)?;
     let old = read_layout_tokens(alloc, input)?;
     let text = format_tokens(alloc, input, old.as_slice())?;
+    if text.len() > MAX_BYTES {
+        return Ok(None);
+    }
     if have_same_tokens(alloc, input, old.as_slice(), text.as_slice())? {
         if let Ok(again) = read(alloc, text.as_slice()) {
             if are_same_trees(trees.as_slice(), again.as_slice()) {
-                return Ok(text);
+                return Ok(Some(text));
             }
         }
     }
-    Ok(Vec::from_slice(alloc, input)?)
+    Ok(Some(Vec::from_slice(alloc, input)?))
 }
