@@ -1,6 +1,6 @@
 //! The arguments of the program: parsing, help, and messages on wrong arguments.
 
-use crate::{help, outputs, refused, subcommands};
+use crate::{diagnostics, help, outputs, subcommands};
 use clap::builder::ValueParser;
 use clap::error::ErrorKind;
 use clap::{ArgMatches, Command, Error};
@@ -105,7 +105,7 @@ fn print_help_or_arguments_error<R: Runtime + AllocGlobal>(
     error: &Error,
 ) -> Status {
     if error.kind() == ErrorKind::OutOfMemory {
-        return refused::print_memory_refusal(rt);
+        return diagnostics::print_memory_refusal(rt);
     }
     if !error.use_stderr() {
         return match error.print(rt) {
@@ -119,7 +119,7 @@ fn print_help_or_arguments_error<R: Runtime + AllocGlobal>(
         };
     }
     let Ok(text) = simplified_arguments_error_text(rt.alloc(), started, error) else {
-        return refused::print_memory_refusal(rt);
+        return diagnostics::print_memory_refusal(rt);
     };
     match eprint!(rt; "{text}") {
         Ok(()) => Status::Refused,
@@ -152,7 +152,7 @@ pub fn parse_arguments_else_print_help_or_error<'a, R: Runtime + AllocGlobal>(
     started: &'a [String],
 ) -> Result<ArgMatches<'a>, Status> {
     let Ok(command) = subcommands::clap_command_for_program(rt.alloc()) else {
-        return Err(refused::print_memory_refusal(rt));
+        return Err(diagnostics::print_memory_refusal(rt));
     };
     match command.try_get_matches_from(started) {
         Ok(matches) if matches.subcommand_name() == Some("verdicts") => {
@@ -174,7 +174,7 @@ pub fn read_program_arguments_or_refuse<R: Runtime + AllocGlobal>(
     let arguments = match env::args(rt) {
         Ok(arguments) => arguments,
         Err(error) if error.kind() == io::ErrorKind::OutOfMemory => return Err(
-            refused::print_memory_refusal(rt),
+            diagnostics::print_memory_refusal(rt),
         ),
         Err(_) => {
             return match eprintln!(rt; "error: an argument is not UTF-8") {
@@ -185,6 +185,6 @@ pub fn read_program_arguments_or_refuse<R: Runtime + AllocGlobal>(
     };
     match arguments.collect(rt.alloc()) {
         Ok(arguments) => Ok(arguments),
-        Err(_) => Err(refused::print_memory_refusal(rt)),
+        Err(_) => Err(diagnostics::print_memory_refusal(rt)),
     }
 }

@@ -1,15 +1,13 @@
 //! `pst campaign`.
-
 ghost use Rattle.std.specs.Prelude.{◌≡◌, false};
 ghost use Rattle.pst_trial.specs.Settings.{AreInRange};
 
-use crate::campaign_progress::CampaignProgressDisplay;
-use crate::context::SubcommandContext;
+use crate::campaign_watchers::{BothWatchers, CampaignProgressDisplay};
 use crate::page::OptionalCampaignPage;
+use crate::preparing::SubcommandContext;
 use crate::saving::FailureSaver;
 use crate::systems::system_name_from_arguments_or_empty;
-use crate::watching::BothWatchers;
-use crate::{campaign_messages, subcommands, warnings};
+use crate::{diagnostics, failure_explanations, subcommands};
 use clap::ArgMatches;
 use pst_campaign::{EarlyStop, StopCondition};
 use pst_cli::{
@@ -187,7 +185,7 @@ fn print_campaign_explanations_and_warnings_to_stderr<R: Eprint>(
     requires { AreInRange settings }
 {
     let Input { files, bytes } = options.input;
-    campaign_messages::print_campaign_explanations_to_stderr(
+    failure_explanations::print_campaign_explanations_to_stderr(
         rt,
         alloc,
         settings,
@@ -196,7 +194,7 @@ fn print_campaign_explanations_and_warnings_to_stderr<R: Eprint>(
         options.line_width,
     );
     if notes.first_genfault.is_none() {
-        warnings::print_input_warnings_to_stderr(rt, alloc, files, bytes);
+        diagnostics::print_input_warnings_to_stderr(rt, alloc, files, bytes);
     }
 }
 

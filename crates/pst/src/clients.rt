@@ -1,16 +1,22 @@
-//! Clients that a campaign or a run calls in place of a known system.
+//! Clients that a campaign or a run calls in place of a known system, and messages on what goes wrong with them.
 
 use crate::outputs::print_file_error_to_stderr;
 use crate::preparing::PreparedInput;
-use crate::systems::{SystemsError, system_in_box};
+use crate::stop_signals::{EndSignal, stop_file_name_from_arguments};
+use crate::systems::{
+    ChosenSystems, SystemsError, system_in_box, systems_and_count_from_arguments,
+};
 use clap::ArgMatches;
-use pst_clients::{ClientFolder, Clients, Notes, open_clients, result_types_of_operations};
+use pst_clients::{
+    ClientFolder, ClientWaits, Clients, Notes, open_clients, result_types_of_operations,
+};
 use pst_typing::load;
 use pst_value::{Items, Ty};
 use std::alloc::{AllocError, Global};
 use std::io::{self, BufReader, ErrorKind};
 use std::rt::Files;
 use std::sync::{Arc, Wait};
+use std::thread::{Builder, JoinHandle, Threads};
 
 /// The notes of all clients, which their boxes and the program share.
 pub type SharedClientNotes = Arc<Notes, Global>;
@@ -93,4 +99,193 @@ pub fn print_client_notes_unless_quiet<R: Eprint>(rt: &R, matches: &ArgMatches<'
     if let Ok(text) = notes.text() {
         let _ = eprint!(rt; "{text}");
     }
+}
+
+/// How many milliseconds pass between two looks at the clients: the second that is counted.
+const PAUSE: u64 = 1_000;
+
+/// The number of seconds without an answer after which a line is written. The next line follows after twice this time.
+const FIRST: u64 = 5;
+
+/// The number of resets in a row that fail before a line is written of them, once.
+const MANY: u64 = 5;
+
+/// What the thread that watches clients shares with the one that ends it.
+#[derive(Drop)]
+struct WatchedClients {
+    notes: Arc<Notes, Global>,
+    /// Whether a file ends the campaign.
+    has_stop_file: bool,
+    end: EndSignal,
+}
+
+/// A client, as it was a second ago.
+#[derive(Clone, Copy, Drop)]
+struct SilenceTimer {
+    /// The line that it had not answered, if there was one.
+    line: Option<u64>,
+    /// For how many seconds.
+    seconds: u64,
+    /// After how many seconds a line is written of it.
+    next: u64,
+}
+
+impl SilenceTimer {
+    /// A client that has just got the line `line`, or has none to answer.
+    fn starting_at_line(line: Option<u64>) -> SilenceTimer {
+        SilenceTimer {
+            line,
+            seconds: 0,
+            next: FIRST,
+        }
+    }
+
+    /// Counts a second. Returns whether a line on it is due.
+    fn restart_or_advance_and_check_if_due(&mut self, line: Option<u64>) -> bool {
+        if line.is_none() || line != self.line {
+            *self = SilenceTimer::starting_at_line(line);
+            return false;
+        }
+        self.seconds = self.seconds.saturating_add(1);
+        if self.seconds < self.next {
+            return false;
+        }
+        self.next = self.next.saturating_mul(2);
+        true
+    }
+}
+
+/// Writes to standard error that a client does not answer its line.
+fn print_that_client_is_silent<R: Eprint>(
+    rt: &R,
+    alloc: Global,
+    waits: &ClientWaits,
+    place: usize,
+    seconds: u64,
+) {
+    let (worker, branch) = ClientWaits::worker_and_branch_of_place(place);
+    let Ok(line) = waits.printable_last_line_at_place(alloc, place) else {
+        let _ = eprintln!(rt;
+            "pst: client {worker}-{branch} has not answered for {seconds} seconds"
+        );
+        return;
+    };
+    let advice = if seconds <= FIRST {
+        ": does it print a line for each line, and flush it?"
+    } else {
+        ""
+    };
+    let _ = eprintln!(rt;
+        "pst: client {worker}-{branch} has not answered {line} for {seconds} seconds{advice}"
+    );
+}
+
+/// Writes to standard error that resets fail, and how to end the campaign, if a file ends it.
+fn print_that_resets_fail<R: Eprint>(rt: &R, has_stop_file: bool) {
+    let advice = if has_stop_file {
+        " Ctrl-C ends the campaign with its report"
+    } else {
+        ""
+    };
+    let _ = eprintln!(rt; "pst: the reset failed {MANY} times in a row: is the server up?{advice}");
+}
+
+/// Returns the waits of `count` clients, none of which has a line to answer.
+fn new_silence_timers(alloc: Global, count: usize) -> Result<Vec<SilenceTimer>, AllocError> {
+    let mut clients = Vec::with_capacity(alloc, count)?;
+    for _ in 0..count {
+        clients.push(SilenceTimer::starting_at_line(None))?;
+    }
+    Ok(clients)
+}
+
+/// Counts a second for each client, and reports those that are silent for long.
+fn count_second_and_report_silent_clients<R: Eprint>(
+    rt: &R,
+    alloc: Global,
+    waits: &ClientWaits,
+    clients: &mut [SilenceTimer],
+) {
+    for place in 0..clients.len() {
+        if clients[place].restart_or_advance_and_check_if_due(waits.unanswered_line_id(place)) {
+            print_that_client_is_silent(rt, alloc, waits, place, clients[place].seconds);
+        }
+    }
+}
+
+/// Checks each second which clients have not answered, until the work is over, and reports those that are silent for long.
+/// Also reports, once, that resets fail, if `MANY` failed in a row.
+fn print_client_trouble_until_over<R: Wait + Eprint>(
+    rt: &R,
+    alloc: Global,
+    watched: &WatchedClients,
+) -> Result<(), AllocError> {
+    let waits = watched.notes.waits();
+    let mut clients = new_silence_timers(alloc, waits.len())?;
+    let mut is_said = false;
+    for _ in rt.forever() {
+        if watched.end.wait(rt, PAUSE) {
+            return Ok(());
+        }
+        count_second_and_report_silent_clients(rt, alloc, waits, clients.as_mut_slice());
+        if !is_said && watched.notes.failed_resets_since_last_success() >= MANY {
+            is_said = true;
+            print_that_resets_fail(rt, watched.has_stop_file);
+        }
+    }
+    Ok(())
+}
+
+/// A thread that says which clients do not answer.
+#[derive(Drop)]
+pub struct ClientWatch {
+    watched: Arc<WatchedClients, Global>,
+    thread: JoinHandle<()>,
+}
+
+impl ClientWatch {
+    /// Ends the thread, and waits for it.
+    pub fn end_thread_and_wait<R: Threads + Wait>(self, rt: &R) {
+        let ClientWatch { watched, thread } = self;
+        watched.end.send();
+        thread.join(rt)
+    }
+}
+
+/// What the thread that watches the clients of some notes shares, if the arguments name clients and do not forbid
+/// messages.
+fn watched_clients_if_any_unless_quiet(
+    alloc: Global,
+    matches: &ArgMatches<'_>,
+    notes: &Arc<Notes, Global>,
+) -> Option<Arc<WatchedClients, Global>> {
+    let (_, arguments) = matches.subcommand()?;
+    match systems_and_count_from_arguments(matches)? {
+        (ChosenSystems::Clients(_), _) if !arguments.get_flag("quiet") => {
+            let watched = WatchedClients {
+                notes: Arc::try_clone(notes).ok()?,
+                has_stop_file: stop_file_name_from_arguments(matches).is_some(),
+                end: EndSignal::new(),
+            };
+            Arc::new(alloc, watched).ok()
+        }
+        _ => None,
+    }
+}
+
+/// Watches the clients that the arguments name, if there is a thread for it, unless they name none or forbid messages.
+pub fn start_client_watch_unless_quiet<R: Threads + Wait + Eprint + Copy + Drop + Send + 'static>(
+    rt: R,
+    alloc: Global,
+    matches: &ArgMatches<'_>,
+    notes: &Arc<Notes, Global>,
+) -> Option<ClientWatch> {
+    let watched = watched_clients_if_any_unless_quiet(alloc, matches, notes)?;
+    let own = Arc::try_clone(&watched).ok()?;
+    let thread = Builder::new()
+        .spawn(&rt, move || {
+            let _ = print_client_trouble_until_over(&rt, alloc, &own);
+        })
+        .ok()?;
+    Some(ClientWatch { watched, thread })
 }

@@ -1,22 +1,23 @@
-//! `pst run`.
+//! `pst run`, and messages on misfits, on standard error: what a system answered for each reply `misfit`.
 ghost use Rattle.std.specs.Prelude.{◌≡◌, false};
 
-use crate::context::SubcommandContext;
+use crate::failure_explanations;
 use crate::item_progress::ItemProgressDisplay;
+use crate::preparing::SubcommandContext;
 use crate::subcommands::is_json_selected;
-use crate::systems::system_name_from_arguments_or_empty;
-use crate::{misfits, run_explanation};
+use crate::systems::{system_in_box, system_name_from_arguments_or_empty};
 use clap::ArgMatches;
 use pst_case::Run;
 use pst_cli::{
     Absence, ItemResultCounts, ProgressCounter, Status, drive_input_items_repeatedly_and_report,
     refuse_text, run_text_with_counts_and_progress, run_with_json_output,
 };
-use pst_driver::Misfits;
+use pst_driver::{MisfitRecorder, Misfits, misfit_lines_text};
 use pst_sexpr::{Out, Sink, put_all};
-use pst_system::BoxedSystem;
-use std::alloc::Global;
-use std::sync::Wait;
+use pst_system::{BoxedSystem, System};
+use pst_typing::load;
+use std::alloc::{AllocError, Global};
+use std::sync::{Arc, Wait};
 use std::thread::Threads;
 
 /// Writes to standard error why the first broken run is broken, in lines of at most `line_width` bytes, and how many other
@@ -38,7 +39,7 @@ fn explain_first_broken_run_and_count_rest<R: Eprint>(
     let Ok(heading) = format!(in alloc; "item {item} is broken:") else {
         return;
     };
-    run_explanation::print_explanation_if_run_failed(
+    failure_explanations::print_explanation_if_run_failed(
         rt,
         alloc,
         heading.as_str(),
@@ -133,7 +134,7 @@ fn drive_items_with_progress_and_messages<
 ) -> Status
     requires { W.broken out.old ≡ false }
 {
-    misfits::set_model_of_misfits_if_it_loads(alloc, misfits, input);
+    set_model_of_misfits_if_it_loads(alloc, misfits, input);
     let Ok(telling) = ItemProgressDisplay::begin(rt, alloc, options.has_progress_line, "run") else {
         return refuse_text(Absence::NoMemory, out);
     };
@@ -158,7 +159,7 @@ fn drive_items_with_progress_and_messages<
     if put_all(report.as_slice(), out).is_err() {
         return Status::Lost;
     }
-    misfits::print_misfits_to_stderr(rt, alloc, misfits);
+    print_misfits_to_stderr(rt, alloc, misfits);
     explain_first_broken_run_and_count_rest(rt, alloc, input, counts, options.line_width);
     status
 }
@@ -211,5 +212,50 @@ pub fn drive_items_on_system_or_refuse<
                 out,
             )
         }
+    }
+}
+
+/// The misfits of a system, which its box and the program share.
+pub type SharedMisfits = Arc<Misfits, Global>;
+
+/// Returns an empty list for the misfits of `run`. `None` for other commands, if the arguments forbid messages, and if
+/// an allocation fails.
+pub fn new_misfit_list_for_run_unless_quiet(
+    alloc: Global,
+    matches: &ArgMatches<'_>,
+) -> Option<SharedMisfits> {
+    let (subcommand, arguments) = matches.subcommand()?;
+    if subcommand != "run" || arguments.get_flag("quiet") {
+        return None;
+    }
+    Arc::new(alloc, Misfits::new(alloc).ok()?).ok()
+}
+
+/// Returns another owner of the misfits, if there is a list of them.
+fn share_misfits(misfits: &Option<SharedMisfits>) -> Option<SharedMisfits> {
+    misfits.as_ref()?.clone().ok()
+}
+
+/// Returns a system in a box, which records its misfits if there is a list for them.
+pub fn boxed_misfit_recorder<S: System>(
+    alloc: Global,
+    system: S,
+    misfits: &Option<SharedMisfits>,
+) -> Result<Box<MisfitRecorder<S>>, AllocError> {
+    system_in_box(alloc, MisfitRecorder::new(system, share_misfits(misfits)))
+}
+
+/// Compares answers from now on with the model at the beginning of `input`, if it can be loaded.
+fn set_model_of_misfits_if_it_loads(alloc: Global, misfits: &Misfits, input: &[u8]) {
+    if let Ok(Ok(file)) = load(alloc, input) {
+        misfits.set_model_if_unset(file.typed);
+    }
+}
+
+/// Writes a line for each recorded misfit to standard error. If an allocation fails or the lines cannot be written, the
+/// runs and their verdicts remain without them.
+fn print_misfits_to_stderr<R: Eprint>(rt: &R, alloc: Global, misfits: &Misfits) {
+    if let Ok(text) = misfit_lines_text(alloc, misfits) {
+        let _ = eprint!(rt; "{text}");
     }
 }

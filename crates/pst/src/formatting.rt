@@ -1,12 +1,14 @@
-//! `pst fmt`.
+//! The commands that rewrite files: `pst fmt` in one layout, `pst convert` in the form of JSON or trees.
+ghost use Rattle.std.specs.Prelude.{◌≡◌, false};
 
 use crate::input::{self, InputOptions, STANDARD_INPUT};
-use crate::{help, json_items, outputs, refused, subcommands};
+use crate::{diagnostics, help, json_items, outputs, subcommands};
+use clap::builder::ValueParser;
 use clap::{Arg, ArgAction, ArgMatches, Command};
-use pst_cli::{Status, refuse_text};
+use pst_cli::{ItemForm, Status, convert_text, refuse_text};
 use pst_messages::{MessageScope, input_error_messages_text};
 use pst_print::format_file;
-use pst_sexpr::{FaultKind, MAX_BYTES, Out, SexprFault, read};
+use pst_sexpr::{FaultKind, MAX_BYTES, Out, SexprFault, Sink, read};
 use pst_sources::SourceFile;
 use pst_typing::Refusal;
 use std::alloc::{AllocError, Global};
@@ -127,7 +129,7 @@ fn rewrite_file_by_way_of_copy<R: Runtime + AllocGlobal>(
     text: &[u8],
 ) -> Status {
     let Ok(copy) = format!(in rt.alloc(); "{name}.pst-fmt") else {
-        return refused::print_memory_refusal(rt);
+        return diagnostics::print_memory_refusal(rt);
     };
     match write_copy_then_file_then_remove_copy(rt, name, copy.as_str(), text) {
         Ok(()) => Status::Accepted,
@@ -180,7 +182,7 @@ fn print_refusal_of_malformed_file<R: Runtime + AllocGlobal>(
     options: FormatOptions,
 ) -> Status {
     if fault.kind == FaultKind::NoMemory {
-        return refused::print_memory_refusal(rt);
+        return diagnostics::print_memory_refusal(rt);
     }
     let refusal = Refusal::Unread(fault);
     if let Err(error) = println!(rt; "refused {refusal}") {
@@ -222,15 +224,15 @@ fn keep_or_refuse_file_with_json_items<R: Runtime + AllocGlobal>(
     let alloc = rt.alloc();
     let name = file.name;
     let Ok(text) = json_blanked_text_or_malformed_beginning(alloc, file.bytes.as_slice()) else {
-        return refused::print_memory_refusal(rt);
+        return diagnostics::print_memory_refusal(rt);
     };
     if let Err(fault) = read(alloc, text.as_slice()) {
         let mut files = Vec::new(alloc);
         let Ok(bytes) = Vec::from_slice(alloc, text.as_slice()) else {
-            return refused::print_memory_refusal(rt);
+            return diagnostics::print_memory_refusal(rt);
         };
         if files.push(SourceFile { name, bytes }).is_err() {
-            return refused::print_memory_refusal(rt);
+            return diagnostics::print_memory_refusal(rt);
         }
         return print_refusal_of_malformed_file(
             rt,
@@ -306,4 +308,43 @@ pub fn run_fmt_subcommand<R: Runtime + AllocGlobal>(
         status = status.or_worse(format_or_check_file_by_name(rt, name, options));
     }
     status
+}
+
+/// The forms of items.
+const FORMS: [&str; 2] = ["json", "trees"];
+
+/// The subcommand `convert`, with the files of a model and its items, and the form to write.
+pub fn clap_command_for_convert<'a>(alloc: Global) -> Result<Command<'a>, AllocError> {
+    Command::new(alloc, "convert")
+        .about("Writes cases and recorded runs as JSON, or as trees: one on each line")
+        .after_help(help::CONVERT)
+        .arg(subcommands::model_and_items_files_argument(alloc))?
+        .arg(
+            Arg::new(alloc, "to")
+                .long("to")
+                .value_name("FORM")
+                .value_parser(ValueParser::Names(&FORMS))
+                .default_value("json")
+                .help("json, or trees")
+                .hide_possible_values(true),
+        )?
+        .arg(subcommands::output_option(alloc))?
+        .arg(subcommands::quiet_option(alloc))
+}
+
+/// Writes the items of the input in the form that the arguments select.
+pub fn run_convert_subcommand<W: Sink>(
+    alloc: Global,
+    arguments: &ArgMatches<'_>,
+    input: &[u8],
+    out: &mut W,
+) -> Status
+    requires { W.broken out.old ≡ false }
+{
+    let form = if arguments.get_str("to") == Some("trees") {
+        ItemForm::Trees
+    } else {
+        ItemForm::Json
+    };
+    convert_text(alloc, input, form, out)
 }

@@ -1,6 +1,6 @@
 //! A line on a terminal that says how far a command is.
 
-use crate::end_signal::EndSignal;
+use crate::stop_signals::EndSignal;
 use crate::summary::add_number_with_thousands_commas;
 use pst_cli::ProgressCounter;
 use std::alloc::{AllocError, Global};

@@ -2,45 +2,33 @@
 #![tactic(auto)]
 
 mod arguments;
-mod campaign_messages;
-mod campaign_progress;
+mod campaign_watchers;
 mod campaigning;
-mod client_watch;
 mod clients;
-mod context;
-mod converting;
+mod diagnostics;
 mod driving;
-mod end_signal;
 mod explaining;
+mod failure_explanations;
 mod formatting;
 mod generating;
 mod help;
 mod input;
 mod item_progress;
 mod json_items;
-mod json_notices;
 mod judging;
-mod least_failure;
 mod line_messages;
-mod misfits;
 mod outputs;
 mod page;
 mod preparing;
-mod quoting;
-mod reading;
-mod refused;
 mod result_file;
-mod run_explanation;
 mod running;
 mod saving;
-mod stop_file;
+mod stop_signals;
 mod streaming;
 mod subcommands;
 mod summary;
 mod systems;
 mod terminal;
-mod warnings;
-mod watching;
 
 use pst_cli::{KnownSystem, Status};
 use pst_samples::{Counter, Meet, Queue, Racy, Registry, Stuck};
@@ -51,7 +39,7 @@ use std::io::IsTerminal;
 use std::process::ExitCode;
 use std::sync::Arc;
 use std::thread::{Builder, JoinHandle};
-use stop_file::StopFileState;
+use stop_signals::StopFileState;
 use systems::{ChosenSystems, SystemsError};
 use terminal::Terminals;
 
@@ -71,7 +59,7 @@ fn systems_with_added_system(
 /// A system in a box, which records its misfits if there is a list for them.
 macro_rules! record_misfits {
     ($alloc:expr, $misfits:expr, $system:expr) => {
-        match misfits::boxed_misfit_recorder($alloc, $system, $misfits) {
+        match driving::boxed_misfit_recorder($alloc, $system, $misfits) {
             Ok(system) => Ok(system),
             Err(_) => Err(SystemsError::NoMemory),
         }
@@ -140,7 +128,10 @@ fn main(rt: HostRuntime) -> ExitCode {
             }
             let start_thread = |watched: Arc<StopFileState, Global>| -> Option<JoinHandle<()>> {
                 Builder::new()
-                    .spawn(&rt, move || stop_file::watch_for_stop_file(&rt, &watched))
+                    .spawn(
+                        &rt,
+                        move || stop_signals::watch_for_stop_file(&rt, &watched),
+                    )
                     .ok()
             };
             Ok(running::run_subcommand_while_watching(
@@ -156,7 +147,7 @@ fn main(rt: HostRuntime) -> ExitCode {
         Ok(worker) => match worker.join(&rt) {
             Ok(status) | Err(status) => status,
         },
-        Err(_) => refused::print_memory_refusal(&rt),
+        Err(_) => diagnostics::print_memory_refusal(&rt),
     };
     ExitCode::from(status.code())
 }

@@ -1,24 +1,21 @@
 //! The run of a subcommand on its input: its output, and messages on standard error.
-
 ghost use Rattle.std.specs.Prelude.{◌≡◌, false};
 
 use crate::campaigning::run_campaign_subcommand;
-use crate::context::SubcommandContext;
 use crate::driving::drive_items_on_system_or_refuse;
 use crate::judging::run_judge_subcommand;
 use crate::outputs::WriteErrorKeeper;
-use crate::preparing::PreparedInput;
-use crate::reading::output_file_name_from_arguments;
+use crate::preparing::{PreparedInput, SubcommandContext, output_file_name_from_arguments};
 use crate::result_file::{
     ResultFileUnlessRefused, does_output_list_refused_items, open_or_create_file_without_emptying,
 };
-use crate::stop_file::{StopFileState, StopFileWatch};
+use crate::stop_signals::{StopFileState, StopFileWatch};
 use crate::subcommands::{Subcommand, is_json_selected};
 use crate::systems::{SystemsError, system_name_from_arguments_or_empty};
 use crate::terminal::{Terminals, line_width_of_environment_or_default};
 use crate::{
-    client_watch, clients, converting, explaining, generating, json_notices, outputs, refused,
-    stop_file, streaming, summary, warnings,
+    clients, diagnostics, explaining, formatting, generating, outputs, stop_signals, streaming,
+    summary,
 };
 use clap::ArgMatches;
 use pst_cli::{
@@ -87,7 +84,7 @@ fn run_check_subcommand<W: Sink>(
     if !is_json_selected(arguments) {
         return check_text(alloc, bytes, out);
     }
-    let notices = json_notices::json_lines_of_notices_unless_quiet(alloc, arguments, &input);
+    let notices = diagnostics::json_lines_of_notices_unless_quiet(alloc, arguments, &input);
     check_with_json_output(alloc, bytes, notices.as_slice(), out)
 }
 
@@ -151,7 +148,7 @@ fn run_subcommand<
             generating::run_generate_subcommand(rt, arguments, bytes, out)
         }
         Some(Subcommand::Convert) => {
-            converting::run_convert_subcommand(alloc, arguments, bytes, out)
+            formatting::run_convert_subcommand(alloc, arguments, bytes, out)
         }
         Some(Subcommand::Judge) => {
             judge_items_of_files_or_stream(rt, context, arguments, input, counts, out)
@@ -179,19 +176,19 @@ fn print_outcome_messages_unless_quiet<R: Eprint + AllocGlobal>(
         return;
     };
     if arguments.get_flag("quiet")
-        || json_notices::is_check_with_json_output(subcommand, arguments)
+        || diagnostics::is_check_with_json_output(subcommand, arguments)
     {
         return;
     }
     let Input { files, bytes } = input;
     match status {
-        Status::Refused => refused::print_refusal_messages_to_stderr(
+        Status::Refused => diagnostics::print_refusal_messages_to_stderr(
             rt,
             subcommand,
             arguments,
             context.files,
         ),
-        Status::Accepted if subcommand == "check" => warnings::print_input_warnings_to_stderr(
+        Status::Accepted if subcommand == "check" => diagnostics::print_input_warnings_to_stderr(
             rt,
             rt.alloc(),
             files,
@@ -335,7 +332,7 @@ fn run_subcommand_while_watching_clients<
     has_appeared: Option<Arc<AtomicBool>>,
 ) -> Status {
     let alloc = rt.alloc();
-    let ending = stop_file::early_stop_from_arguments(matches, has_appeared);
+    let ending = stop_signals::early_stop_from_arguments(matches, has_appeared);
     let context = SubcommandContext {
         matches,
         files: prepared.source_files_as_read(),
@@ -344,7 +341,7 @@ fn run_subcommand_while_watching_clients<
         terminals,
         line_width: line_width_of_environment_or_default(&rt),
     };
-    let watch = client_watch::start_client_watch_unless_quiet(rt, alloc, matches, &prepared.notes);
+    let watch = clients::start_client_watch_unless_quiet(rt, alloc, matches, &prepared.notes);
     let status = run_subcommand_to_chosen_output(
         &rt,
         context,
@@ -374,9 +371,9 @@ pub fn run_subcommand_while_watching<
     requires { F.IsAlwaysCallable start_thread.now }
 {
     let alloc = rt.alloc();
-    let Ok(has_appeared) = stop_file::shared_flag_whether_stop_file_exists(&rt, alloc, matches)
+    let Ok(has_appeared) = stop_signals::shared_flag_whether_stop_file_exists(&rt, alloc, matches)
     else {
-        return refused::print_memory_refusal(&rt);
+        return diagnostics::print_memory_refusal(&rt);
     };
     let watch = StopFileWatch::start_if_file_is_named(alloc, matches, &has_appeared, start_thread);
     let status = run_subcommand_while_watching_clients(

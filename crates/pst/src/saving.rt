@@ -1,8 +1,7 @@
-//! Files of the failures of a campaign.
+//! Files of the failures of a campaign, with commands whose arguments are quoted as a shell reads them.
 
 use crate::input::STANDARD_INPUT;
 use crate::outputs::print_file_error_to_stderr;
-use crate::quoting::push_shell_argument_quoted_if_needed;
 use clap::ArgMatches;
 use pst_cli::Status;
 use pst_clients::ClientFolder;
@@ -187,4 +186,32 @@ impl<'a> FailureSaver<'a> {
         }
         Status::Accepted
     }
+}
+
+/// Whether a shell takes the character for itself wherever it is.
+fn is_safe_unquoted_in_shell(character: char) -> bool {
+    matches!(character, 'a'..='z' | 'A'..='Z' | '0'..='9' | '/' | '.' | '_' | '-' | ':' | ',' | '=' | '+' | '@' | '%')
+}
+
+/// Adds an argument to the text of a command, between quotes if a shell would not read it as one word.
+fn push_shell_argument_quoted_if_needed(
+    command: &mut String,
+    argument: &str,
+) -> Result<(), AllocError> {
+    if !argument.is_empty()
+        && argument
+            .chars()
+            .all(|character| is_safe_unquoted_in_shell(character))
+    {
+        return command.push_str(argument);
+    }
+    command.push('\'')?;
+    for character in argument.chars() {
+        if character == '\'' {
+            command.push_str("'\\''")?;
+        } else {
+            command.push(character)?;
+        }
+    }
+    command.push('\'')
 }

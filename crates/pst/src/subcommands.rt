@@ -3,7 +3,7 @@
 mod options;
 mod plan;
 
-use crate::{converting, explaining, formatting, help, page};
+use crate::{explaining, formatting, help, page};
 use clap::Command;
 pub use options::{
     is_client_option_given, is_json_selected, model_and_items_files_argument, only_failures_option,
@@ -173,7 +173,7 @@ fn add_item_subcommands<'a>(
 ) -> Result<Command<'a>, AllocError> {
     let command = add_subcommand(command, clap_command_for_judge(alloc))?;
     let command = add_subcommand(command, explaining::clap_command_for_explain(alloc))?;
-    add_subcommand(command, converting::clap_command_for_convert(alloc))
+    add_subcommand(command, formatting::clap_command_for_convert(alloc))
 }
 
 /// `verdicts`, which prints what verdicts, reports, refusals and exit statuses mean.

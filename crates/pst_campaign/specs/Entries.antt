@@ -1,14 +1,14 @@
 -- What the trial of a number may come to on a system.
 use Rattle.std.specs.Prelude.{◌≡◌, ⊤, ℕ}
 use Rattle.pst_driver.specs.Driven.{IsDriven}
-use Rattle.pst_driver.specs.declared.fault.DriveFault.{DriveFault}
-use Rattle.pst_driver.specs.declared.fault.DriveFault.TheVariants as fault
+use Rattle.pst_driver.specs.declared.driving.DriveFault.{DriveFault}
+use Rattle.pst_driver.specs.declared.driving.DriveFault.TheVariants as fault
 use Rattle.pst_ledger.specs.declared.entry.Cause.{Cause}
 use Rattle.pst_ledger.specs.declared.entry.Cause.TheVariants.{ResetFailed, NoThread, NoMemory}
 use Rattle.pst_ledger.specs.declared.entry.Entry.{Entry}
 use Rattle.pst_ledger.specs.declared.entry.Entry.TheVariants.{Undrawn, Held, Done, Lost}
 use Rattle.pst_system.specs.Kept.{Answers, Fails, ResetFails}
-use Rattle.pst_system.specs.declared.call.CallFault.{CallFault}
+use Rattle.pst_system.specs.declared.system.CallFault.{CallFault}
 use Rattle.pst_trial.specs.PlanView.{PlanView}
 use Rattle.pst_trial.specs.RecordView.{RecordView}
 use Rattle.pst_trial.specs.Sound.{IsSoundBy}

@@ -1,7 +1,7 @@
 -- The words for the faults of campaigns.
 use Rattle.std.specs.Prelude.{ℕ, List, codes}
-use Rattle.pst_campaign.specs.declared.fault.CampaignFault.{CampaignFault}
-use Rattle.pst_campaign.specs.declared.fault.CampaignFault.TheVariants.{NoSystem, TooMany, NoMemory}
+use Rattle.pst_campaign.specs.declared.campaigns.CampaignFault.{CampaignFault}
+use Rattle.pst_campaign.specs.declared.campaigns.CampaignFault.TheVariants.{NoSystem, TooMany, NoMemory}
 
 -- the bytes of a fault's name
 abbrev pub fault_name : CampaignFault → List ℕ

@@ -3,8 +3,8 @@ use Rattle.std.proofs.Common.{◌≡◌, ◌⊎◌, ℕ, inl, inr}
 use Rattle.pst_campaign.specs.Entries.{MayGive, cause_of}
 use Rattle.pst_case.specs.OfModel.{OfModel}
 use Rattle.pst_driver.specs.Driven.{IsDriveFault}
-use Rattle.pst_driver.specs.declared.fault.DriveFault.{DriveFault}
-use Rattle.pst_driver.specs.declared.fault.DriveFault.TheVariants as fault
+use Rattle.pst_driver.specs.declared.driving.DriveFault.{DriveFault}
+use Rattle.pst_driver.specs.declared.driving.DriveFault.TheVariants as fault
 use Rattle.pst_ledger.specs.declared.entry.Cause.TheVariants.{ResetFailed, NoThread, NoMemory}
 use Rattle.pst_ledger.specs.declared.entry.Entry.{Entry}
 use Rattle.pst_ledger.specs.declared.entry.Entry.TheVariants.{Undrawn, Held, Done, Lost}

@@ -1,7 +1,7 @@
 -- What workers add to their seats, and what a campaign shows.
 use Rattle.std.specs.Prelude.{◌≡◌, ◌⊎◌, ℕ, ◌<◌, ◌≤◌, ◌++◌, List, Option, Some, All, slice_get}
-use Rattle.pst_campaign.specs.declared.fault.CampaignFault.{CampaignFault}
-use Rattle.pst_campaign.specs.declared.fault.CampaignFault.TheVariants.{NoSystem, TooMany, NoMemory}
+use Rattle.pst_campaign.specs.declared.campaigns.CampaignFault.{CampaignFault}
+use Rattle.pst_campaign.specs.declared.campaigns.CampaignFault.TheVariants.{NoSystem, TooMany, NoMemory}
 use Rattle.pst_ledger.specs.declared.entry.Entry.{Entry}
 use Rattle.pst_ledger.specs.declared.entry.Entry.TheVariants.{Undrawn}
 

@@ -1,21 +1,21 @@
-//! Whole campaigns.
+//! Whole campaigns, and why one did not start.
 ghost use Rattle.std.specs.Prelude.{◌≡◌, ◌≤◌, length, IfOk, IfErr};
 ghost use Rattle.std.specs.Arc.{arc_value};
 ghost use Rattle.pst_campaign.specs.Entries.{MayGive};
 ghost use Rattle.pst_campaign.specs.Working.{AllGiven, AllGivenUnless, HasWorkers, IsCampaignFault};
+ghost use Rattle.pst_campaign.specs.FaultName.{fault_name};
 
-use crate::ending::{NeverStops, StopCondition};
-use crate::fault::CampaignFault;
 use crate::plans::WatchedPlan;
 use crate::runner::Worker;
 use crate::threads::run_workers_on_threads_or_here;
-use crate::watch::Watch;
+use crate::watch::{NeverStops, StopCondition, Watch};
 use pst_ledger::{Closed, Ledger};
 use pst_system::{BoxedSystem, System};
 use pst_trial::{Plan, Record, prove_records_are_send_and_sync};
-use std::alloc::Global;
+use std::alloc::{AllocError, Global};
 use std::sync::{Arc, Wait};
 use std::thread::Threads;
+use thiserror::Error;
 
 /// The maximum number of systems of a campaign.
 const MAX_SYSTEMS: usize = 16;
@@ -106,4 +106,42 @@ pub fn campaign_until<K: StopCondition + Sync, H: Threads + Wait + Sync>(
     let ended = run_campaign_with_workers(rt, alloc, &watched, trials, systems);
     ending.campaign_ended();
     ended
+}
+
+/// Why a campaign did not start.
+#[derive(Clone, Copy, Debug, PartialEq, Eq, Drop, Error)]
+pub enum CampaignFault {
+    /// No system was handed in.
+    #[error("there is no system")]
+    NoSystem,
+    /// More than 16 systems were handed in.
+    #[error("there are more than 16 systems")]
+    TooMany,
+    /// An allocation failed.
+    #[error("not enough memory")]
+    NoMemory,
+}
+
+impl CampaignFault {
+    /// The word for the fault.
+    pub fn name(&self) -> &'static str
+        ensures { result.now ≡ fault_name self.now }
+    {
+        match self {
+            CampaignFault::NoSystem => "NoSystem",
+            CampaignFault::TooMany => "TooMany",
+            CampaignFault::NoMemory => "NoMemory",
+        }
+    }
+}
+
+impl From<AllocError> for CampaignFault {
+    ghost use Rattle.std.specs.Prelude.{◌≡◌};
+    ghost use Rattle.pst_campaign.specs.declared.campaigns.CampaignFault.TheVariants.{NoMemory};
+
+    ghost from_gives = { λ _ e. e ≡ NoMemory };
+
+    fn from(_refused: AllocError) -> CampaignFault {
+        CampaignFault::NoMemory
+    }
 }

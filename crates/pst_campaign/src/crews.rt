@@ -8,10 +8,9 @@ ghost use Rattle.pst_model.specs.contracts.model.Source as coding;
 ghost use Rattle.pst_system.specs.Kept.{AreKept};
 ghost use Rattle.std.specs.Coded.{codes};
 
-use crate::ending::StopCondition;
 use crate::plans::{WatchedPlan, loss_cause_of_trial_fault};
-use crate::runner::TrialRunner;
-use crate::working::run_trials_at_own_seat;
+use crate::runner::{TrialRunner, run_trials_at_own_seat};
+use crate::watch::StopCondition;
 use pst_driver::{Crew, Relations, Subject, SystemWithRelations, start_crew};
 use pst_ledger::{Cause, Ledger, Seat};
 use pst_system::{BoxedSystem, System};

@@ -3,16 +3,11 @@
 
 mod campaigns;
 mod crews;
-mod ending;
-mod fault;
 mod plans;
 mod runner;
 mod threads;
 mod watch;
-mod working;
 
-pub use campaigns::{campaign, campaign_until};
-pub use ending::{EarlyStop, NeverStops, StopCondition, did_not_pass};
-pub use fault::CampaignFault;
-pub use watch::{Unwatched, Watch};
-pub use working::run_trials_until_none_is_left;
+pub use campaigns::{CampaignFault, campaign, campaign_until};
+pub use runner::run_trials_until_none_is_left;
+pub use watch::{EarlyStop, NeverStops, StopCondition, Unwatched, Watch, did_not_pass};

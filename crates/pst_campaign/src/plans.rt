@@ -6,8 +6,8 @@ ghost use Rattle.pst_ledger.specs.declared.entry.Entry.TheVariants.{Done, Lost};
 ghost use Rattle.pst_system.specs.Kept.{AreKept};
 
 use crate::crews::run_trials_with_or_without_crew;
-use crate::ending::StopCondition;
 use crate::runner::{TrialRunner, Worker};
+use crate::watch::StopCondition;
 use pst_ledger::{Cause, Ledger, Seat};
 use pst_system::{BoxedSystem, System};
 use pst_trial::{Plan, Record, ShrinkProgress, TrialFault, run_trial_with_progress};

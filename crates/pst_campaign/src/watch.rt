@@ -1,6 +1,10 @@
-//! Those who watch a campaign while it runs.
+//! Those who watch a campaign while it runs, and those who end it before all its trials have run.
+
 use pst_ledger::Cause;
-use pst_trial::{Record, ShrinkProgress};
+use pst_trial::{Record, ShrinkProgress, TrialOutcome};
+use std::alloc::Global;
+use std::sync::Arc;
+use std::sync::atomic::{AtomicBool, AtomicU64, Ordering};
 
 /// One who watches a campaign while it runs. It changes nothing of what the campaign gives.
 pub trait Watch {
@@ -24,4 +28,121 @@ impl Watch for Unwatched {
     fn trial_ended(&self, _ended: &Result<Record, Cause>) {}
 
     fn campaign_ended(&self) {}
+}
+
+/// One who watches a campaign, and says whether it is over.
+pub trait StopCondition: Watch {
+    ghost use Rattle.std.specs.Prelude.{IsTrue};
+
+    /// That it may end a campaign before all numbers are drawn.
+    ghost may_end: { Self → Type 0 };
+
+    /// Whether the campaign is over. A worker draws no number once it is, and trials that have begun are run to their end.
+    fn is_campaign_over(&self) -> bool
+        ensures { IsTrue result → may_end self.now };
+}
+
+/// One who watches a campaign whose trials all run.
+#[derive(Clone, Copy, Drop)]
+pub struct NeverStops<'a, K> {
+    pub watch: &'a K,
+}
+
+impl<'a, K: Watch> Watch for NeverStops<'a, K> {
+    fn trial_ended(&self, ended: &Result<Record, Cause>) {
+        self.watch.trial_ended(ended);
+    }
+
+    fn shrink_progress(&self) -> Option<&ShrinkProgress> {
+        self.watch.shrink_progress()
+    }
+
+    fn campaign_ended(&self) {
+        self.watch.campaign_ended();
+    }
+}
+
+impl<'a, K: Watch> StopCondition for NeverStops<'a, K> {
+    ghost may_end = { λ _. ⊥ };
+
+    fn is_campaign_over(&self) -> bool {
+        false
+    }
+}
+
+/// Ends a campaign once some of its trials did not pass, or when it is interrupted.
+#[derive(Drop)]
+pub struct EarlyStop {
+    /// How many trials that did not pass end the campaign, if there is a limit.
+    most: Option<u64>,
+    /// How many did not pass so far.
+    failures: AtomicU64,
+    /// Whether the campaign was interrupted, if that may happen.
+    interrupted: Option<Arc<AtomicBool>>,
+}
+
+impl EarlyStop {
+    ghost use Rattle.std.specs.Prelude.{◌≡◌, IsTrue, IsSome};
+
+    /// The end of a campaign in which no trial has ended.
+    pub fn new(most: Option<u64>, interrupted: Option<Arc<AtomicBool>>) -> EarlyStop
+        ensures limit { result.most ≡ most }
+        ensures interrupt { result.interrupted ≡ interrupted }
+    {
+        EarlyStop {
+            most,
+            failures: AtomicU64::new(0),
+            interrupted,
+        }
+    }
+
+    /// Whether enough trials did not pass for the campaign to be over.
+    fn has_reached_limit_of_unpassed_trials(&self) -> bool
+        ensures { IsTrue result → IsSome self.now.most }
+    {
+        match self.most {
+            Some(most) => self.failures.load(Ordering::SeqCst) >= most,
+            None => false,
+        }
+    }
+
+    /// Whether the campaign was interrupted.
+    fn is_interrupted(&self) -> bool
+        ensures { IsTrue result → IsSome self.now.interrupted }
+    {
+        match &self.interrupted {
+            Some(interrupted) => interrupted.load(Ordering::SeqCst),
+            None => false,
+        }
+    }
+}
+
+/// Whether the record is one of a trial that did not pass.
+pub fn did_not_pass(record: &Record) -> bool {
+    match record.outcome() {
+        TrialOutcome::Passed { .. } => false,
+        TrialOutcome::Failed { .. } | TrialOutcome::GenFaulted(_) => true,
+    }
+}
+
+impl Watch for EarlyStop {
+    fn trial_ended(&self, ended: &Result<Record, Cause>) {
+        if let Ok(record) = ended
+            && did_not_pass(record)
+        {
+            self.failures.fetch_add(1, Ordering::SeqCst);
+        }
+    }
+
+    fn campaign_ended(&self) {}
+}
+
+impl StopCondition for EarlyStop {
+    ghost use Rattle.std.specs.Prelude.{◌⊎◌, IsSome};
+
+    ghost may_end = { λ e. IsSome e.most ⊎ IsSome e.interrupted };
+
+    fn is_campaign_over(&self) -> bool {
+        self.has_reached_limit_of_unpassed_trials() || self.is_interrupted()
+    }
 }

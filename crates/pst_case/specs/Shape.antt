@@ -3,9 +3,9 @@ use Rattle.std.specs.Prelude.{◌≡◌, ◌==◌, ◌&&◌, ◌||◌, not, ℕ,
 use Rattle.std.specs.List.{list_any, list_all}
 use Rattle.pst_case.specs.declared.case.Case.{Case}
 use Rattle.pst_case.specs.declared.case.Command.{Command}
-use Rattle.pst_case.specs.declared.fault.CaseFault.{CaseFault}
-use Rattle.pst_case.specs.declared.fault.CaseFaultKind.{CaseFaultKind}
-use Rattle.pst_case.specs.declared.fault.CaseFaultKind.TheVariants.{UnknownOp, BadArgument, ForwardVar, CrossVar, OverLimit}
+use Rattle.pst_case.specs.declared.shaping.CaseFault.{CaseFault}
+use Rattle.pst_case.specs.declared.shaping.CaseFaultKind.{CaseFaultKind}
+use Rattle.pst_case.specs.declared.shaping.CaseFaultKind.TheVariants.{UnknownOp, BadArgument, ForwardVar, CrossVar, OverLimit}
 use Rattle.pst_model.specs.Fitting.{args_fit}
 use Rattle.pst_model.specs.Parts.{operation_of}
 use Rattle.pst_model.specs.declared.model.Op.{Op}

@@ -6,9 +6,9 @@ ghost use Rattle.pst_model.specs.Fitting.{fits_in};
 ghost use Rattle.pst_model.specs.WellTyped.{WellModel};
 ghost use Rattle.pst_value.specs.declared.ty.Ty.TheVariants as ty;
 
+use crate::argument_checks::do_arguments_fit_parameters;
 use crate::case::{Command, Shaped};
 use crate::history::{History, Reply};
-use crate::types::do_arguments_fit_parameters;
 use pst_model::{Source, Typed, operation_of};
 use pst_value::{Items, Value};
 

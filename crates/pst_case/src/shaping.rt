@@ -1,5 +1,6 @@
-//! Checks the shape of a case.
+//! Checks the shape of a case, and says why a case does not have it.
 ghost use Rattle.std.specs.Prelude.{◌≡◌, ◌<◌, ◌+◌, ◌^◌, ◌⊎◌, IfOk, IfErr, length, Some, not, ◌||◌};
+ghost use Rattle.pst_case.specs.FaultName.{fault_name};
 ghost use Rattle.std.specs.List.{list_any};
 ghost use Rattle.pst_model.specs.Fitting.{args_fit};
 ghost use Rattle.pst_model.specs.Parts.{operation_of};
@@ -7,14 +8,55 @@ ghost use Rattle.pst_case.specs.Shape as spec;
 ghost use Rattle.pst_case.specs.Refusal.{no_memory};
 ghost use Rattle.pst_model.specs.WellTyped.{WellModel};
 
-use crate::banned::{BannedVariables, any_has_reference, any_holds_banned_variable};
-use crate::case::{Case, Command, Shaped};
-use crate::fault::{CaseFault, CaseFaultKind};
-use crate::limits::{count_commands_of_branches, is_case_size_outside_limits};
-use crate::types::{do_arguments_fit_parameters, result_types};
+use crate::argument_checks::{
+    BannedVariables, any_has_reference, any_holds_banned_variable, do_arguments_fit_parameters,
+    result_types,
+};
+use crate::case::{Case, Command, Shaped, count_commands_of_branches, is_case_size_outside_limits};
 use pst_model::{Op, Source, Typed, operation_of};
 use pst_value::{Items, Ty};
 use std::alloc::{AllocError, Global};
+
+/// The kinds of a case's faults.
+#[derive(Clone, Copy, Debug, PartialEq, Eq, Drop)]
+pub enum CaseFaultKind {
+    /// No operation has this number.
+    UnknownOp = 1,
+    /// The count or a type of the arguments is wrong, or an argument holds a reference.
+    BadArgument = 2,
+    /// An argument holds variable 0, or the variable of the command itself or of a later one.
+    ForwardVar = 3,
+    /// An argument holds the variable of a command of another branch.
+    CrossVar = 4,
+    /// Over 64 commands in the prefix, 8 in a branch, or 16 in all branches together, or not two to four
+    /// branches.
+    OverLimit = 5,
+    /// An allocation failed.
+    NoMemory = 6,
+}
+
+impl CaseFaultKind {
+    /// The name to print for it.
+    pub fn name(&self) -> &'static str
+        ensures { result.now ≡ fault_name self.now }
+    {
+        match self {
+            CaseFaultKind::UnknownOp => "UnknownOp",
+            CaseFaultKind::BadArgument => "BadArgument",
+            CaseFaultKind::ForwardVar => "ForwardVar",
+            CaseFaultKind::CrossVar => "CrossVar",
+            CaseFaultKind::OverLimit => "OverLimit",
+            CaseFaultKind::NoMemory => "NoMemory",
+        }
+    }
+}
+
+/// A fault, and its command, from 1; 0 is the case itself.
+#[derive(Clone, Copy, Debug, PartialEq, Eq, Drop)]
+pub struct CaseFault {
+    pub kind: CaseFaultKind,
+    pub command: u32,
+}
 
 /// The rules for the commands of a case.
 #[derive(Drop)]

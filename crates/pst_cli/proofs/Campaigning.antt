@@ -3,13 +3,13 @@ use Rattle.std.proofs.Common.{◌≡◌, ◌⊎◌, inl, inr, ℕ, suc, ◌+◌,
 use Rattle.std.specs.Prelude.{slice_get, IfOk, OnOk}
 use Rattle.pst_campaign.specs.Entries.{MayGive}
 use Rattle.pst_campaign.specs.Working.{AllGivenUnless, HasWorkers, IsCampaignFault}
-use Rattle.pst_campaign.specs.declared.fault.CampaignFault.{CampaignFault}
-use Rattle.pst_campaign.specs.declared.fault.CampaignFault.TheVariants.{NoMemory}
+use Rattle.pst_campaign.specs.declared.campaigns.CampaignFault.{CampaignFault}
+use Rattle.pst_campaign.specs.declared.campaigns.CampaignFault.TheVariants.{NoMemory}
 use Rattle.pst_cli.specs.CampaignOutput.{Gives, plan_of, campaign_line, status_after}
 use Rattle.pst_cli.specs.EarlyOutput.{IsEarlyOutputFor, ended, not_begun, IsEarlyOutput, loaded, not_loaded}
 use Rattle.pst_cli.specs.Head.{refusal_line}
 use Rattle.pst_cli.specs.declared.output.Output.{Output}
-use Rattle.pst_cli.specs.declared.status.Status.TheVariants.{Refused, Lost}
+use Rattle.pst_cli.specs.declared.output.Status.TheVariants.{Refused, Lost}
 use Rattle.pst_ledger.specs.declared.entry.Entry.{Entry}
 use Rattle.pst_ledger.specs.declared.entry.Entry.TheVariants as entry
 use Rattle.pst_model.specs.declared.model.Source.{Source}
@@ -20,9 +20,9 @@ use Rattle.pst_sexpr.specs.declared.form.Form.{Form}
 use Rattle.pst_system.specs.Kept.{Answers, Fails, ResetFails}
 use Rattle.pst_trial.specs.PlanView.{PlanView}
 use Rattle.pst_trial.specs.RecordView.{RecordView}
-use Rattle.pst_trial.specs.declared.settings.Settings.{Settings}
+use Rattle.pst_trial.specs.declared.plan.Settings.{Settings}
 use Rattle.pst_typing.specs.Loading.{Holds, IsRefusal}
-use Rattle.pst_typing.specs.declared.load_refusal.Refusal.{Refusal}
+use Rattle.pst_typing.specs.declared.loading.Refusal.{Refusal}
 
 given_is_of : (A : Answers) (F : Fails) (R : ResetFails) (p : PlanView) (number : ℕ) (e : Entry RecordView)
     → MayGive A F R p number e → IsOf p number e

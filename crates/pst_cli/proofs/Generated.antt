@@ -11,10 +11,10 @@ use Rattle.pst_cli.specs.Outputs.{joined, worst_of}
 use Rattle.pst_cli.specs.Sending.{PrintsElse, Sends}
 use Rattle.pst_cli.specs.Status.{or_worse}
 use Rattle.pst_cli.specs.Streaming.{IsWrittenTo}
-use Rattle.pst_cli.specs.declared.convert.ItemForm.{ItemForm}
+use Rattle.pst_cli.specs.declared.model_commands.ItemForm.{ItemForm}
 use Rattle.pst_cli.specs.declared.output.Output.{Output}
-use Rattle.pst_cli.specs.declared.status.Status.{Status}
-use Rattle.pst_cli.specs.declared.status.Status.TheVariants.{Accepted, Lost}
+use Rattle.pst_cli.specs.declared.output.Status.{Status}
+use Rattle.pst_cli.specs.declared.output.Status.TheVariants.{Accepted, Lost}
 use Rattle.pst_cli.specs.declared.stream.Cut.{Cut}
 use Rattle.pst_cli.specs.declared.stream.Cut.TheVariants as cut
 use Rattle.pst_typing.specs.Loading.{Holds}
@@ -22,7 +22,7 @@ use Rattle.pst_model.specs.declared.model.Source.{Source}
 use Rattle.pst_sexpr.specs.declared.form.Form.{Form}
 use Rattle.pst_sexpr.specs.Writing.{WritesAll, WritesPart}
 use Rattle.pst_trial.specs.PlanView.{PlanView}
-use Rattle.pst_trial.specs.declared.settings.Settings.{Settings}
+use Rattle.pst_trial.specs.declared.plan.Settings.{Settings}
 
 module _ (f : ItemForm) (p : PlanView) where
   -- the outputs of numbers that follow one another

@@ -6,17 +6,17 @@ use Rattle.pst_case.specs.declared.history.Run.{Run}
 use Rattle.pst_cli.specs.KeepingOn.{KeepsJudgements, answered, answer_lines, worst_status}
 use Rattle.pst_cli.specs.Output.{AreJudged, is_good, item_line, item_lines}
 use Rattle.pst_cli.specs.Status.{or_worse}
-use Rattle.pst_cli.specs.declared.status.Status.{Status}
-use Rattle.pst_cli.specs.declared.status.Status.TheVariants.{Accepted, Failed}
+use Rattle.pst_cli.specs.declared.output.Status.{Status}
+use Rattle.pst_cli.specs.declared.output.Status.TheVariants.{Accepted, Failed}
 use Rattle.pst_rejudge.specs.Answers.{IsAnswer}
-use Rattle.pst_rejudge.specs.declared.each.ItemResult.TheVariants as answer
+use Rattle.pst_rejudge.specs.declared.reading.ItemResult.TheVariants as answer
 use Rattle.pst_judge.specs.declared.judgement.Judged.{Judged}
 use Rattle.pst_typing.specs.Loading.{items_of}
 use Rattle.pst_model.specs.declared.model.Source.{Source}
 use Rattle.pst_runs.specs.Items.{item_of, numbered, runs_from}
 use Rattle.pst_runs.specs.Replies.{◌>>=◌, then_more}
-use Rattle.pst_runs.specs.declared.fault.ItemFault.{ItemFault}
-use Rattle.pst_runs.specs.declared.fault.RunFault.{RunFault}
+use Rattle.pst_runs.specs.declared.reader.ItemFault.{ItemFault}
+use Rattle.pst_runs.specs.declared.reader.RunFault.{RunFault}
 use Rattle.pst_sexpr.specs.declared.form.Form.{Form}
 
 -- one more item is read

@@ -8,24 +8,24 @@ use Rattle.pst_typing.specs.Loading.{IsFile, Holds, items_of, IsRefusal}
 use Rattle.pst_cli.specs.Output.{IsCheckOutput, ok_line, HoldsRuns, IsFirstRefusal, IsJudgeOutput, run_line, AreJudged, item_line, item_lines, is_explained, is_good, status_of}
 use Rattle.pst_cli.specs.Output as output
 use Rattle.pst_cli.specs.OneOutput.{OneCheckOutput, OneJudgeOutput}
-use Rattle.pst_typing.specs.declared.load_refusal.Refusal.{Refusal}
-use Rattle.pst_typing.specs.declared.load_refusal.Refusal.TheVariants.{Unread, NoModel, IllTyped}
-use Rattle.pst_cli.specs.declared.status.Status.{Status}
-use Rattle.pst_cli.specs.declared.status.Status.TheVariants.{Accepted, Failed}
+use Rattle.pst_typing.specs.declared.loading.Refusal.{Refusal}
+use Rattle.pst_typing.specs.declared.loading.Refusal.TheVariants.{Unread, NoModel, IllTyped}
+use Rattle.pst_cli.specs.declared.output.Status.{Status}
+use Rattle.pst_cli.specs.declared.output.Status.TheVariants.{Accepted, Failed}
 use Rattle.pst_judge.specs.JudgedText.{judged_text, why_text, case_fault_text}
 use Rattle.pst_judge.specs.Same.{SameVerdict, SameWhy, SameJudgement, OneJudgement}
 use Rattle.pst_judge.specs.VerdictText.{verdict_text, word_text, fault_text}
 use Rattle.pst_judge.specs.declared.judgement.Judged.{Judged}
 use Rattle.pst_judge.specs.declared.judgement.Judged.TheVariants.{Verdict as Told, Valid, Invalid}
-use Rattle.pst_judge.specs.declared.verdicts.Verdict.{Verdict}
-use Rattle.pst_judge.specs.declared.verdicts.Verdict.TheVariants.{Explained, Faulted, Unexplained, Broken}
-use Rattle.pst_judge.specs.declared.why.Why.{Why}
-use Rattle.pst_judge.specs.declared.why.Why.TheVariants.{PreFalse, CallbackFault, NoMemory}
+use Rattle.pst_judge.specs.declared.judgement.Verdict.{Verdict}
+use Rattle.pst_judge.specs.declared.judgement.Verdict.TheVariants.{Explained, Faulted, Unexplained, Broken}
+use Rattle.pst_judge.specs.declared.validated.Why.{Why}
+use Rattle.pst_judge.specs.declared.validated.Why.TheVariants.{PreFalse, CallbackFault, NoMemory}
 use Rattle.pst_model.specs.declared.model.Source.{Source}
 use Rattle.pst_model.specs.WellTyped.{WellModel}
 use Rattle.pst_runs.specs.Items.{runs_of}
 use Rattle.pst_sexpr.specs.Reading.{max_bytes, Spells, IsFault}
-use Rattle.pst_sexpr.specs.declared.fault.SexprFault.{SexprFault}
+use Rattle.pst_sexpr.specs.declared.reader.SexprFault.{SexprFault}
 use Rattle.pst_sexpr.specs.declared.form.Form.{Form}
 use Rattle.pst_syntax.specs.Items.{model_of}
 use Rattle.pst_typing.specs.Least.{IsIll}

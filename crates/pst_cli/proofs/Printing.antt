@@ -1,7 +1,7 @@
 -- An output that is sent is printed.
 use Rattle.std.proofs.Common.{◌≡◌, ℕ, Bool, List, Option, inl, subst}
 use Rattle.pst_cli.specs.Sending.{Sends, Prints, PrintsElse}
-use Rattle.pst_cli.specs.declared.status.Status.{Status}
+use Rattle.pst_cli.specs.declared.output.Status.{Status}
 
 module _ (IsOutput : List ℕ → Status → Type 0) (before after : Option (List ℕ)) (broken : Bool) (answer status : Status) where
   -- the bytes that were handed over are those of the output

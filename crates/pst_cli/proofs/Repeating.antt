@@ -7,8 +7,8 @@ use Rattle.pst_cli.proofs.Keeping.{reported_before}
 use Rattle.pst_cli.specs.RepeatOutput.{AreDriven, AreRepeated, IsRepeated, repeated, invalid, lost, drives_line, failed_of, is_accepted, shown_after, shown_of}
 use Rattle.pst_cli.specs.RunOutput.{IsReported}
 use Rattle.pst_cli.specs.declared.output.Output.{Output}
-use Rattle.pst_cli.specs.declared.status.Status.{Status}
-use Rattle.pst_cli.specs.declared.status.Status.TheVariants.{Lost}
+use Rattle.pst_cli.specs.declared.output.Status.{Status}
+use Rattle.pst_cli.specs.declared.output.Status.TheVariants.{Lost}
 use Rattle.pst_judge.specs.Validity.{IsValid}
 use Rattle.pst_model.specs.declared.model.Source.{Source}
 use Rattle.pst_system.specs.Kept.{Answers, Fails, ResetFails, AreKept}

@@ -15,7 +15,7 @@ use Rattle.pst_cli.specs.declared.item_report.ItemReport.TheVariants as became
 use Rattle.pst_driver.specs.Driven.{IsDriven}
 use Rattle.pst_judge.specs.Validity.{IsValid}
 use Rattle.pst_cli.specs.Status.{or_worse}
-use Rattle.pst_cli.specs.declared.status.Status.{Status}
+use Rattle.pst_cli.specs.declared.output.Status.{Status}
 use Rattle.pst_model.specs.declared.model.Source.{Source}
 use Rattle.pst_system.specs.Kept.{Answers, Fails, ResetFails}
 

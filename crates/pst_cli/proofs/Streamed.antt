@@ -6,8 +6,8 @@ use Rattle.pst_cli.specs.KeepingOn.{answer_lines}
 use Rattle.pst_cli.specs.Sending.{Prints, Sends, memory_line}
 use Rattle.pst_cli.specs.StreamOutput.{IsCutLine, IsStreamOutput, whole, cut as cut_short}
 use Rattle.pst_cli.specs.Streaming.{IsCutShort, IsWhole}
-use Rattle.pst_cli.specs.declared.status.Status.{Status}
-use Rattle.pst_cli.specs.declared.status.Status.TheVariants.{Lost}
+use Rattle.pst_cli.specs.declared.output.Status.{Status}
+use Rattle.pst_cli.specs.declared.output.Status.TheVariants.{Lost}
 use Rattle.pst_cli.specs.declared.stream.Cut.{Cut}
 use Rattle.pst_cli.specs.declared.stream.Cut.TheVariants as cut
 use Rattle.pst_model.specs.declared.model.Source.{Source}

@@ -8,20 +8,20 @@ use Rattle.rayon.proofs.ListFacts.{AllZip-append}
 use Rattle.pst_cli.specs.KeepingOn.{answer_line, answer_lines, answer_status, worst_status}
 use Rattle.pst_cli.specs.Status.{or_worse}
 use Rattle.pst_cli.specs.Streaming.{AreCounted, IsCutShort, IsWhole, IsUnwritten, IsWrittenTo, cut_of}
-use Rattle.pst_cli.specs.declared.status.Status.{Status}
-use Rattle.pst_cli.specs.declared.status.Status.TheVariants.{Accepted}
+use Rattle.pst_cli.specs.declared.output.Status.{Status}
+use Rattle.pst_cli.specs.declared.output.Status.TheVariants.{Accepted}
 use Rattle.pst_cli.specs.declared.stream.Cut.{Cut}
 use Rattle.pst_cli.specs.declared.stream.Cut.TheVariants as cut
 use Rattle.pst_cli.specs.declared.stream.Written.{Written}
-use Rattle.pst_rejudge.specs.declared.each.ItemResult.{ItemResult}
+use Rattle.pst_rejudge.specs.declared.reading.ItemResult.{ItemResult}
 use Rattle.pst_model.specs.declared.model.Source.{Source}
 use Rattle.pst_sexpr.specs.Reading.{max_bytes}
 use Rattle.pst_sexpr.specs.Writing.{WritesAll, WritesPart}
 use Rattle.pst_rejudge.specs.StreamAnswers.{IsLineAnswer}
 use Rattle.pst_rejudge.specs.Blocks.{IsBlock, IsMiddleBlock, IsLastBlock}
 use Rattle.pst_rejudge.specs.Lines.{begun, ended, last_line, lines_of}
-use Rattle.pst_rejudge.specs.declared.blocks.StreamFault.{StreamFault}
-use Rattle.pst_rejudge.specs.declared.blocks.StreamFault.TheVariants as fault
+use Rattle.pst_rejudge.specs.declared.stream_reading.StreamFault.{StreamFault}
+use Rattle.pst_rejudge.specs.declared.stream_reading.StreamFault.TheVariants as fault
 
 -- ---- lines of bytes that follow others
 

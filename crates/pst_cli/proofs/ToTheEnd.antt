@@ -9,23 +9,23 @@ use Rattle.pst_campaign.proofs.Given.{all_given_to_the_end}
 use Rattle.pst_cli.specs.CampaignOutput.{Gives, plan_of, status_after, IsOutputFor, reported, not_started, IsCampaignOutput, accepted, refused}
 use Rattle.pst_cli.specs.EarlyOutput.{IsEarlyOutputFor, ended, not_begun, IsEarlyOutput, loaded, not_loaded}
 use Rattle.pst_cli.specs.Sending.{Prints}
-use Rattle.pst_cli.specs.declared.status.Status.{Status}
-use Rattle.pst_judge.specs.declared.verdicts.Verdict.{Verdict}
-use Rattle.pst_judge.specs.declared.verdicts.Verdict.TheVariants as verdict
+use Rattle.pst_cli.specs.declared.output.Status.{Status}
+use Rattle.pst_judge.specs.declared.judgement.Verdict.{Verdict}
+use Rattle.pst_judge.specs.declared.judgement.Verdict.TheVariants as verdict
 use Rattle.pst_ledger.specs.declared.entry.Entry.{Entry}
 use Rattle.pst_ledger.specs.declared.entry.Entry.TheVariants as entry
 use Rattle.pst_model.specs.declared.model.Source.{Source}
 use Rattle.pst_report.specs.Kinds.{kind_of_verdict, kind_of_outcome, own_failure, is_same}
 use Rattle.pst_report.specs.Status.{is_missing, is_failed, is_lost, is_undrawn, did_not_pass, campaign_status, ended_status}
-use Rattle.pst_report.specs.declared.kind.EntryKind.TheVariants as kind
+use Rattle.pst_report.specs.declared.status.EntryKind.TheVariants as kind
 use Rattle.pst_report.specs.declared.status.CampaignStatus.{CampaignStatus}
 use Rattle.pst_report.specs.declared.status.CampaignStatus.TheVariants.{Passed, Failed, Incomplete}
 use Rattle.pst_system.specs.Kept.{Answers, Fails, ResetFails}
 use Rattle.pst_trial.specs.PlanView.{PlanView}
 use Rattle.pst_trial.specs.RecordView.{RecordView}
-use Rattle.pst_trial.specs.declared.outcome.TrialOutcome.{TrialOutcome}
-use Rattle.pst_trial.specs.declared.outcome.TrialOutcome.TheVariants as outcome
-use Rattle.pst_trial.specs.declared.settings.Settings.{Settings}
+use Rattle.pst_trial.specs.declared.record.TrialOutcome.{TrialOutcome}
+use Rattle.pst_trial.specs.declared.record.TrialOutcome.TheVariants as outcome
+use Rattle.pst_trial.specs.declared.plan.Settings.{Settings}
 
 verdict_is_drawn : (v : Verdict) → is_same (kind_of_verdict v) kind.Undrawn ≡ false
 verdict_is_drawn (verdict.Explained word) = refl

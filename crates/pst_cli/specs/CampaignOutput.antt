@@ -3,11 +3,11 @@
 use Rattle.std.specs.Prelude.{◌≡◌, ℕ, List, ◌++◌, length, codes}
 use Rattle.pst_campaign.specs.FaultName.{fault_name}
 use Rattle.pst_campaign.specs.Working.{AllGiven, HasWorkers, IsCampaignFault}
-use Rattle.pst_campaign.specs.declared.fault.CampaignFault.{CampaignFault}
-use Rattle.pst_campaign.specs.declared.fault.CampaignFault.TheVariants.{NoMemory}
+use Rattle.pst_campaign.specs.declared.campaigns.CampaignFault.{CampaignFault}
+use Rattle.pst_campaign.specs.declared.campaigns.CampaignFault.TheVariants.{NoMemory}
 use Rattle.pst_cli.specs.Head.{refusal_line, line_end}
-use Rattle.pst_cli.specs.declared.status.Status.{Status}
-use Rattle.pst_cli.specs.declared.status.Status.TheVariants.{Accepted, Failed, Refused, Lost}
+use Rattle.pst_cli.specs.declared.output.Status.{Status}
+use Rattle.pst_cli.specs.declared.output.Status.TheVariants.{Accepted, Failed, Refused, Lost}
 use Rattle.pst_ledger.specs.declared.entry.Entry.{Entry}
 use Rattle.pst_model.specs.declared.model.Source.{Source}
 use Rattle.pst_report.specs.Status.{campaign_status}
@@ -17,9 +17,9 @@ use Rattle.pst_report.specs.declared.status.CampaignStatus.TheVariants as campai
 use Rattle.pst_sexpr.specs.declared.form.Form.{Form}
 use Rattle.pst_trial.specs.PlanView.{PlanView}
 use Rattle.pst_trial.specs.RecordView.{RecordView}
-use Rattle.pst_trial.specs.declared.settings.Settings.{Settings}
+use Rattle.pst_trial.specs.declared.plan.Settings.{Settings}
 use Rattle.pst_typing.specs.Loading.{Holds, IsRefusal}
-use Rattle.pst_typing.specs.declared.load_refusal.Refusal.{Refusal}
+use Rattle.pst_typing.specs.declared.loading.Refusal.{Refusal}
 
 -- the plan of a model with the settings
 abbrev pub plan_of : Source → Settings → PlanView

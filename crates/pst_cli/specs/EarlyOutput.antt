@@ -1,21 +1,21 @@
 -- The output of `pst campaign` where the campaign may end before all trials have run.
 use Rattle.std.specs.Prelude.{◌≡◌, ℕ, List, length}
 use Rattle.pst_campaign.specs.Working.{AllGivenUnless, HasWorkers, IsCampaignFault}
-use Rattle.pst_campaign.specs.declared.fault.CampaignFault.{CampaignFault}
-use Rattle.pst_campaign.specs.declared.fault.CampaignFault.TheVariants.{NoMemory}
+use Rattle.pst_campaign.specs.declared.campaigns.CampaignFault.{CampaignFault}
+use Rattle.pst_campaign.specs.declared.campaigns.CampaignFault.TheVariants.{NoMemory}
 use Rattle.pst_cli.specs.CampaignOutput.{Gives, plan_of, campaign_line, status_after}
 use Rattle.pst_cli.specs.Head.{refusal_line}
-use Rattle.pst_cli.specs.declared.status.Status.{Status}
-use Rattle.pst_cli.specs.declared.status.Status.TheVariants.{Refused, Lost}
+use Rattle.pst_cli.specs.declared.output.Status.{Status}
+use Rattle.pst_cli.specs.declared.output.Status.TheVariants.{Refused, Lost}
 use Rattle.pst_ledger.specs.declared.entry.Entry.{Entry}
 use Rattle.pst_model.specs.declared.model.Source.{Source}
 use Rattle.pst_report.specs.Status.{ended_status}
 use Rattle.pst_report.specs.Text.{report_text}
 use Rattle.pst_sexpr.specs.declared.form.Form.{Form}
 use Rattle.pst_trial.specs.RecordView.{RecordView}
-use Rattle.pst_trial.specs.declared.settings.Settings.{Settings}
+use Rattle.pst_trial.specs.declared.plan.Settings.{Settings}
 use Rattle.pst_typing.specs.Loading.{Holds, IsRefusal}
-use Rattle.pst_typing.specs.declared.load_refusal.Refusal.{Refusal}
+use Rattle.pst_typing.specs.declared.loading.Refusal.{Refusal}
 
 module _ {S : Type 0} (may_end : Type 0) (may_give : Gives S) (settings : Settings) (systems : List S) where
   -- The output for a well-typed model: that of `IsOutputFor`, but that numbers may be undrawn if the campaign may end

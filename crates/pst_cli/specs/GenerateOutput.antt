@@ -9,13 +9,13 @@ use Rattle.pst_cli.specs.Head.{refusal_line, line_end}
 use Rattle.pst_cli.specs.JsonOutput.{memory_object, refusal_object}
 use Rattle.pst_cli.specs.Sending.{memory_line}
 use Rattle.pst_cli.specs.Status.{or_worse}
-use Rattle.pst_cli.specs.declared.convert.ItemForm.{ItemForm}
-use Rattle.pst_cli.specs.declared.convert.ItemForm.TheVariants as form
+use Rattle.pst_cli.specs.declared.model_commands.ItemForm.{ItemForm}
+use Rattle.pst_cli.specs.declared.model_commands.ItemForm.TheVariants as form
 use Rattle.pst_cli.specs.declared.output.Output.{Output}
-use Rattle.pst_cli.specs.declared.status.Status.{Status}
-use Rattle.pst_cli.specs.declared.status.Status.TheVariants.{Accepted, Failed, Refused, Lost}
+use Rattle.pst_cli.specs.declared.output.Status.{Status}
+use Rattle.pst_cli.specs.declared.output.Status.TheVariants.{Accepted, Failed, Refused, Lost}
 use Rattle.pst_eval.specs.Places.{callback_name}
-use Rattle.pst_eval.specs.declared.place.FaultPlace.{FaultPlace}
+use Rattle.pst_eval.specs.declared.callbacks.FaultPlace.{FaultPlace}
 use Rattle.pst_rejudge.specs.Objects.{object_line}
 use Rattle.pst_rejudge.specs.Verdicts.{place_fields}
 use Rattle.pst_rejudge.specs.declared.field.Field.{Field}
@@ -25,9 +25,9 @@ use Rattle.pst_model.specs.declared.model.Source.{Source}
 use Rattle.pst_sexpr.specs.declared.form.Form.{Form}
 use Rattle.pst_trial.specs.PlanView.{PlanView}
 use Rattle.pst_trial.specs.Sound.{IsTrialCase}
-use Rattle.pst_trial.specs.declared.settings.Settings.{Settings}
+use Rattle.pst_trial.specs.declared.plan.Settings.{Settings}
 use Rattle.pst_typing.specs.Loading.{Holds, IsRefusal}
-use Rattle.pst_typing.specs.declared.load_refusal.Refusal.{Refusal}
+use Rattle.pst_typing.specs.declared.loading.Refusal.{Refusal}
 use Rattle.pst_value.specs.FaultName.{fault_name}
 
 -- a case of the model, without replies

@@ -2,10 +2,10 @@
 use Rattle.std.specs.Prelude.{◌≡◌, ℕ, ◌≤◌, Bool, List, Option, Result, MatchResult}
 use Rattle.pst_cli.specs.GenerateOutput.{IsCaseLine, AreCaseLines}
 use Rattle.pst_cli.specs.Streaming.{IsUnwritten, IsWrittenTo}
-use Rattle.pst_cli.specs.declared.convert.ItemForm.{ItemForm}
+use Rattle.pst_cli.specs.declared.model_commands.ItemForm.{ItemForm}
 use Rattle.pst_cli.specs.declared.output.Output.{Output}
-use Rattle.pst_cli.specs.declared.status.Status.{Status}
-use Rattle.pst_cli.specs.declared.status.Status.TheVariants.{Accepted}
+use Rattle.pst_cli.specs.declared.output.Status.{Status}
+use Rattle.pst_cli.specs.declared.output.Status.TheVariants.{Accepted}
 use Rattle.pst_cli.specs.declared.stream.Cut.{Cut}
 use Rattle.pst_sexpr.specs.Writing.{WritesAll}
 use Rattle.pst_trial.specs.PlanView.{PlanView}

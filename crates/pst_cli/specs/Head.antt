@@ -1,7 +1,7 @@
 -- The lines of refusals.
 use Rattle.std.specs.Prelude.{ℕ, List, [], ◌∷◌, ◌++◌, codes}
 use Rattle.pst_typing.specs.Loading.{text_of}
-use Rattle.pst_typing.specs.declared.load_refusal.Refusal.{Refusal}
+use Rattle.pst_typing.specs.declared.loading.Refusal.{Refusal}
 
 -- the end of a line
 abbrev pub line_end : List ℕ

@@ -3,17 +3,17 @@ use Rattle.std.specs.Prelude.{◌≡◌, ℕ, ◌+◌, if◌then◌else◌, List
 use Rattle.std.specs.List.{AllZip}
 use Rattle.pst_cli.specs.Head.{line_end}
 use Rattle.pst_cli.specs.KeepingOn.{is_good_answer, worst_status}
-use Rattle.pst_cli.specs.declared.shown.Shown.{Shown}
-use Rattle.pst_cli.specs.declared.shown.Shown.TheVariants as shown
-use Rattle.pst_cli.specs.declared.status.Status.{Status}
-use Rattle.pst_cli.specs.declared.status.Status.TheVariants.{Accepted, Refused}
+use Rattle.pst_cli.specs.declared.lines.Shown.{Shown}
+use Rattle.pst_cli.specs.declared.lines.Shown.TheVariants as shown
+use Rattle.pst_cli.specs.declared.output.Status.{Status}
+use Rattle.pst_cli.specs.declared.output.Status.TheVariants.{Accepted, Refused}
 use Rattle.pst_rejudge.specs.Answers.{IsAnswer}
-use Rattle.pst_rejudge.specs.declared.each.ItemResult.{ItemResult}
-use Rattle.pst_rejudge.specs.declared.each.ItemResult.TheVariants as answer
+use Rattle.pst_rejudge.specs.declared.reading.ItemResult.{ItemResult}
+use Rattle.pst_rejudge.specs.declared.reading.ItemResult.TheVariants as answer
 use Rattle.pst_rejudge.specs.Objects.{object_line}
 use Rattle.pst_rejudge.specs.Verdicts.{accepted_fields, judged_fields, refusal_fields, refused_fields}
 use Rattle.pst_typing.specs.Loading.{Holds, items_of, IsRefusal}
-use Rattle.pst_typing.specs.declared.load_refusal.Refusal.{Refusal}
+use Rattle.pst_typing.specs.declared.loading.Refusal.{Refusal}
 use Rattle.pst_model.specs.declared.model.Source.{Source}
 use Rattle.pst_sexpr.specs.declared.form.Form.{Form}
 

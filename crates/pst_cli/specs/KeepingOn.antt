@@ -6,16 +6,16 @@ use Rattle.pst_cli.specs.Head.{refusal_line}
 use Rattle.pst_cli.specs.Output.{AreJudged, is_good, item_line, item_lines, run_line, status_of}
 use Rattle.pst_cli.specs.RunOutput.{status_of_one}
 use Rattle.pst_cli.specs.Status.{or_worse}
-use Rattle.pst_cli.specs.declared.shown.Shown.{Shown}
-use Rattle.pst_cli.specs.declared.shown.Shown.TheVariants as shown
-use Rattle.pst_cli.specs.declared.status.Status.{Status}
-use Rattle.pst_cli.specs.declared.status.Status.TheVariants.{Accepted, Refused}
+use Rattle.pst_cli.specs.declared.lines.Shown.{Shown}
+use Rattle.pst_cli.specs.declared.lines.Shown.TheVariants as shown
+use Rattle.pst_cli.specs.declared.output.Status.{Status}
+use Rattle.pst_cli.specs.declared.output.Status.TheVariants.{Accepted, Refused}
 use Rattle.pst_rejudge.specs.Answers.{IsAnswer}
-use Rattle.pst_rejudge.specs.declared.each.ItemResult.{ItemResult}
-use Rattle.pst_rejudge.specs.declared.each.ItemResult.TheVariants as answer
+use Rattle.pst_rejudge.specs.declared.reading.ItemResult.{ItemResult}
+use Rattle.pst_rejudge.specs.declared.reading.ItemResult.TheVariants as answer
 use Rattle.pst_judge.specs.declared.judgement.Judged.{Judged}
 use Rattle.pst_typing.specs.Loading.{Holds, items_of, IsRefusal}
-use Rattle.pst_typing.specs.declared.load_refusal.Refusal.{Refusal}
+use Rattle.pst_typing.specs.declared.loading.Refusal.{Refusal}
 use Rattle.pst_model.specs.declared.model.Source.{Source}
 use Rattle.pst_runs.specs.Items.{runs_of}
 use Rattle.pst_sexpr.specs.declared.form.Form.{Form}

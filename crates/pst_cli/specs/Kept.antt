@@ -2,8 +2,8 @@
 use Rattle.std.specs.Prelude.{◌≡◌, ℕ, Bool, true, false, List}
 use Rattle.pst_case.specs.declared.history.Run.{Run}
 use Rattle.pst_cli.specs.Output.{AreJudged, HoldsRuns}
-use Rattle.pst_cli.specs.declared.kept.Keep.{Keep}
-use Rattle.pst_cli.specs.declared.kept.Keep.TheVariants as keep
+use Rattle.pst_cli.specs.declared.input.Keep.{Keep}
+use Rattle.pst_cli.specs.declared.input.Keep.TheVariants as keep
 use Rattle.pst_judge.specs.declared.judgement.Judged.{Judged}
 use Rattle.pst_model.specs.declared.model.Source.{Source}
 use Rattle.pst_runs.specs.Lawful.{AreLawful}

@@ -4,21 +4,21 @@ use Rattle.std.specs.List.{list_all}
 use Rattle.pst_case.specs.declared.history.Run.{Run}
 use Rattle.pst_cli.specs.Head.{refusal_line, line_end}
 use Rattle.pst_typing.specs.Loading.{Holds, items_of, IsRefusal}
-use Rattle.pst_typing.specs.declared.load_refusal.Refusal.{Refusal}
-use Rattle.pst_cli.specs.declared.shown.Shown.{Shown}
-use Rattle.pst_cli.specs.declared.shown.Shown.TheVariants as shown
-use Rattle.pst_cli.specs.declared.status.Status.{Status}
-use Rattle.pst_cli.specs.declared.status.Status.TheVariants.{Accepted, Failed, Refused}
+use Rattle.pst_typing.specs.declared.loading.Refusal.{Refusal}
+use Rattle.pst_cli.specs.declared.lines.Shown.{Shown}
+use Rattle.pst_cli.specs.declared.lines.Shown.TheVariants as shown
+use Rattle.pst_cli.specs.declared.output.Status.{Status}
+use Rattle.pst_cli.specs.declared.output.Status.TheVariants.{Accepted, Failed, Refused}
 use Rattle.pst_judge.specs.JudgedText.{judged_text}
 use Rattle.pst_judge.specs.Judgement.{IsJudgement}
 use Rattle.pst_judge.specs.declared.judgement.Judged.{Judged}
 use Rattle.pst_judge.specs.declared.judgement.Judged.TheVariants as kind
-use Rattle.pst_judge.specs.declared.verdicts.Verdict.{Verdict}
-use Rattle.pst_judge.specs.declared.verdicts.Verdict.TheVariants.{Explained, Faulted, Unexplained, Broken}
+use Rattle.pst_judge.specs.declared.judgement.Verdict.{Verdict}
+use Rattle.pst_judge.specs.declared.judgement.Verdict.TheVariants.{Explained, Faulted, Unexplained, Broken}
 use Rattle.pst_model.specs.declared.model.Source.{Source}
 use Rattle.pst_runs.specs.Items.{runs_of}
 use Rattle.pst_runs.specs.FaultName as runs
-use Rattle.pst_runs.specs.declared.fault.RunFault.{RunFault}
+use Rattle.pst_runs.specs.declared.reader.RunFault.{RunFault}
 use Rattle.pst_sexpr.specs.declared.form.Form.{Form}
 
 -- ---- `pst check`

@@ -2,7 +2,7 @@
 use Rattle.std.specs.Prelude.{ℕ, List, [], ◌∷◌, ◌++◌}
 use Rattle.pst_cli.specs.Status.{or_worse}
 use Rattle.pst_cli.specs.declared.output.Output.{Output}
-use Rattle.pst_cli.specs.declared.status.Status.{Status}
+use Rattle.pst_cli.specs.declared.output.Status.{Status}
 
 -- the texts, one after another
 abbrev pub joined : List Output → List ℕ

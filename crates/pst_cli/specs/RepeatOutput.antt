@@ -8,18 +8,18 @@ use Rattle.pst_cli.specs.Output.{item_line, run_line}
 use Rattle.pst_cli.specs.Outputs.{joined, worst_of}
 use Rattle.pst_cli.specs.RunOutput.{IsReported}
 use Rattle.pst_cli.specs.declared.output.Output.{Output}
-use Rattle.pst_cli.specs.declared.status.Status.{Status}
-use Rattle.pst_cli.specs.declared.status.Status.TheVariants.{Accepted, Failed, Refused, Lost}
+use Rattle.pst_cli.specs.declared.output.Status.{Status}
+use Rattle.pst_cli.specs.declared.output.Status.TheVariants.{Accepted, Failed, Refused, Lost}
 use Rattle.pst_judge.specs.Validity.{IsValid, IsWhy}
 use Rattle.pst_judge.specs.declared.judgement.Judged.TheVariants as kind
-use Rattle.pst_judge.specs.declared.why.Why.{Why}
+use Rattle.pst_judge.specs.declared.validated.Why.{Why}
 use Rattle.pst_model.specs.declared.model.Source.{Source}
 use Rattle.pst_runs.specs.Items.{runs_of}
-use Rattle.pst_runs.specs.declared.fault.RunFault.{RunFault}
+use Rattle.pst_runs.specs.declared.reader.RunFault.{RunFault}
 use Rattle.pst_sexpr.specs.declared.form.Form.{Form}
 use Rattle.pst_system.specs.Kept.{Answers, Fails, ResetFails}
 use Rattle.pst_typing.specs.Loading.{Holds, items_of, IsRefusal}
-use Rattle.pst_typing.specs.declared.load_refusal.Refusal.{Refusal}
+use Rattle.pst_typing.specs.declared.loading.Refusal.{Refusal}
 
 -- whether a drive is explained
 abbrev pub is_accepted : Status → Bool

@@ -8,25 +8,25 @@ use Rattle.pst_case.specs.declared.history.Run.{Run}
 use Rattle.pst_cli.specs.Head.{refusal_line, line_end}
 use Rattle.pst_cli.specs.Output.{item_line, run_line, is_good}
 use Rattle.pst_cli.specs.Status.{or_worse}
-use Rattle.pst_cli.specs.declared.status.Status.{Status}
-use Rattle.pst_cli.specs.declared.status.Status.TheVariants.{Accepted, Failed, Refused, Lost}
+use Rattle.pst_cli.specs.declared.output.Status.{Status}
+use Rattle.pst_cli.specs.declared.output.Status.TheVariants.{Accepted, Failed, Refused, Lost}
 use Rattle.pst_driver.specs.Driven.{IsDriven, IsDriveFault}
 use Rattle.pst_driver.specs.FaultName.{fault_name}
-use Rattle.pst_driver.specs.declared.fault.DriveFault.{DriveFault}
+use Rattle.pst_driver.specs.declared.driving.DriveFault.{DriveFault}
 use Rattle.pst_judge.specs.Judgement.{IsJudgement}
 use Rattle.pst_judge.specs.Validity.{IsValid, IsWhy}
 use Rattle.pst_judge.specs.declared.judgement.Judged.{Judged}
 use Rattle.pst_judge.specs.declared.judgement.Judged.TheVariants as kind
-use Rattle.pst_judge.specs.declared.why.Why.{Why}
+use Rattle.pst_judge.specs.declared.validated.Why.{Why}
 use Rattle.pst_model.specs.declared.model.Source.{Source}
 use Rattle.pst_runs.specs.Items.{runs_of}
 use Rattle.pst_runs.specs.Lines.{line_of}
 use Rattle.pst_runs.specs.Written.{run_form}
-use Rattle.pst_runs.specs.declared.fault.RunFault.{RunFault}
+use Rattle.pst_runs.specs.declared.reader.RunFault.{RunFault}
 use Rattle.pst_sexpr.specs.declared.form.Form.{Form}
 use Rattle.pst_system.specs.Kept.{Answers, Fails, ResetFails}
 use Rattle.pst_typing.specs.Loading.{Holds, items_of, IsRefusal}
-use Rattle.pst_typing.specs.declared.load_refusal.Refusal.{Refusal}
+use Rattle.pst_typing.specs.declared.loading.Refusal.{Refusal}
 
 -- `NUMBER lost KIND`
 abbrev pub lost_line : ℕ → DriveFault → List ℕ

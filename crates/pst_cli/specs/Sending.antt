@@ -1,8 +1,8 @@
 -- What is written of an output, and which status is answered.
 use Rattle.std.specs.Prelude.{◌≡◌, ◌⊎◌, ◌++◌, ℕ, Bool, true, List, Option, codes}
 use Rattle.pst_cli.specs.Head.{line_end}
-use Rattle.pst_cli.specs.declared.status.Status.{Status}
-use Rattle.pst_cli.specs.declared.status.Status.TheVariants.{Lost}
+use Rattle.pst_cli.specs.declared.output.Status.{Status}
+use Rattle.pst_cli.specs.declared.output.Status.TheVariants.{Lost}
 use Rattle.pst_sexpr.specs.Writing.{WritesAll, WritesPart}
 
 -- the text was written whole, and its status is the answer; or the writer failed, a beginning of the text

@@ -2,18 +2,18 @@
 use Rattle.std.specs.Prelude.{◌≡◌, ℕ, ◌+◌, Bool, true, false, List, ◌++◌, length, Option, Some, Result, MatchResult}
 use Rattle.std.specs.List.{AllZip}
 use Rattle.pst_cli.specs.KeepingOn.{answer_lines, worst_status}
-use Rattle.pst_cli.specs.declared.status.Status.{Status}
-use Rattle.pst_cli.specs.declared.status.Status.TheVariants.{Accepted}
+use Rattle.pst_cli.specs.declared.output.Status.{Status}
+use Rattle.pst_cli.specs.declared.output.Status.TheVariants.{Accepted}
 use Rattle.pst_cli.specs.declared.stream.Cut.{Cut}
 use Rattle.pst_cli.specs.declared.stream.Cut.TheVariants.{Unread, NoMemory, Unwritten}
 use Rattle.pst_cli.specs.declared.stream.Written.{Written}
-use Rattle.pst_rejudge.specs.declared.each.ItemResult.{ItemResult}
+use Rattle.pst_rejudge.specs.declared.reading.ItemResult.{ItemResult}
 use Rattle.pst_model.specs.declared.model.Source.{Source}
 use Rattle.pst_sexpr.specs.Writing.{WritesAll, WritesPart}
 use Rattle.pst_rejudge.specs.StreamAnswers.{IsLineAnswer}
 use Rattle.pst_rejudge.specs.Lines.{lines_of}
-use Rattle.pst_rejudge.specs.declared.blocks.StreamFault.{StreamFault}
-use Rattle.pst_rejudge.specs.declared.blocks.StreamFault.TheVariants as fault
+use Rattle.pst_rejudge.specs.declared.stream_reading.StreamFault.{StreamFault}
+use Rattle.pst_rejudge.specs.declared.stream_reading.StreamFault.TheVariants as fault
 
 -- why the lines end where a block cannot be had
 abbrev pub cut_of : StreamFault → Cut

@@ -4,8 +4,7 @@ ghost use Rattle.pst_cli.specs.Absent.{absence_line, absence_status};
 ghost use Rattle.pst_cli.specs.Sending.{Sends};
 ghost use Rattle.pst_sexpr.specs.Writing.{joined};
 
-use crate::output::write_with_status_or_lost;
-use crate::status::Status;
+use crate::output::{Status, write_with_status_or_lost};
 use pst_sexpr::{Sink, put_each};
 
 /// Why the program has nothing to begin with.

@@ -2,21 +2,19 @@
 ghost use Rattle.std.specs.Prelude.{◌≡◌, false, IfOk, OnOk, length, string_bytes};
 ghost use Rattle.std.specs.Arc.{arc_value};
 ghost use Rattle.pst_campaign.specs.Entries.{MayGive};
-ghost use Rattle.pst_campaign.specs.declared.fault.CampaignFault.TheVariants as kind;
+ghost use Rattle.pst_campaign.specs.declared.campaigns.CampaignFault.TheVariants as kind;
 ghost use Rattle.pst_cli.specs.CampaignOutput as spec;
 ghost use Rattle.pst_cli.specs.CampaignOutput.{IsCampaignOutput, plan_of};
 ghost use Rattle.pst_cli.specs.EarlyOutput.{IsEarlyOutput, IsEarlyOutputFor};
 ghost use Rattle.pst_cli.specs.Sending.{Prints};
-ghost use Rattle.pst_cli.specs.declared.status.Status.TheVariants as status;
+ghost use Rattle.pst_cli.specs.declared.output.Status.TheVariants as status;
 ghost use Rattle.pst_report.specs.InOrder.{AreOf};
 ghost use Rattle.pst_report.specs.Status.{ended_status};
 ghost use Rattle.pst_report.specs.Text.{report_text};
 ghost use Rattle.pst_trial.specs.Settings.{AreInRange};
 
 use crate::notes::CampaignNotes;
-use crate::output::{Output, write_with_status_or_lost};
-use crate::refusal::refusal_output;
-use crate::status::Status;
+use crate::output::{Output, Status, refusal_output, write_with_status_or_lost};
 use pst_campaign::{CampaignFault, NeverStops, StopCondition, Watch, campaign_until};
 use pst_ledger::Closed;
 use pst_model::Typed;

@@ -1,18 +1,17 @@
-//! `pst explain`.
-ghost use Rattle.std.specs.Prelude.{◌≡◌, false, IfOk};
+//! `pst explain`: which items it explains, and what it writes for them or for an item that does not exist.
+ghost use Rattle.std.specs.Prelude.{◌≡◌, false, IfOk, IsTrue, ◌↔◌, string_bytes};
 ghost use Rattle.pst_cli.specs.ExplainOutput.{IsExplainOutput, IsExplanation};
 ghost use Rattle.pst_cli.specs.Output.{AreJudged};
 ghost use Rattle.pst_cli.specs.Sending.{Prints};
 ghost use Rattle.pst_judge.specs.Judgement.{IsJudgement};
 ghost use Rattle.pst_runs.specs.Lawful.{AreLawful, IsLawful};
+ghost use Rattle.pst_cli.specs.ChosenItem.{IsItem, no_item_line};
+ghost use Rattle.pst_cli.specs.declared.output.Status.TheVariants.{Refused};
 
-use crate::chosen::{ChosenItems, is_number_of_judged_item, output_of_missing_item};
 use crate::form::ExplanationForm;
-use crate::judge::status_of_judgements;
-use crate::judged::{JudgedFile, concatenate_run_lists, read_and_judge_file};
-use crate::kept::Keep;
-use crate::output::{Output, write_with_status_or_lost};
-use crate::status::Status;
+use crate::input::{JudgedFile, Keep, concatenate_run_lists, read_and_judge_file};
+use crate::judge::{is_explained_or_valid, status_of_judgements};
+use crate::output::{Output, Status, write_with_status_or_lost};
 use pst_case::Run;
 use pst_compile::Compiled;
 use pst_explain::{TreePlace, explain_item, graphviz_text_of_item_search, tree_places_in_input};
@@ -213,4 +212,53 @@ pub fn explain_with_progress<W: Sink, R: Threads + Sync>(
         Ok(output) => write_with_status_or_lost(output.text.as_slice(), output.status, sink),
         Err(AllocError) => write_with_status_or_lost(b"refused memory\n", Status::Lost, sink),
     }
+}
+
+/// Which items to explain.
+#[derive(Clone, Copy, Debug, PartialEq, Eq, Drop)]
+pub enum ChosenItems {
+    /// All of them.
+    All,
+    /// Those that are neither explained nor valid.
+    Failures,
+    /// The item with this number, from 1.
+    Item(usize),
+}
+
+impl ChosenItems {
+    /// Whether to explain item `number`, with this judgement.
+    pub(crate) fn includes(self, number: usize, judged: &Judged) -> bool {
+        match self {
+            ChosenItems::All => true,
+            ChosenItems::Failures => !is_explained_or_valid(judged),
+            ChosenItems::Item(chosen) => chosen == number,
+        }
+    }
+}
+
+/// Whether the judged items have an item `number`, from 1.
+fn is_number_of_judged_item(number: usize, all: &[Judged]) -> bool
+    ensures { IsTrue result ↔ IsItem number all.now }
+{
+    1 <= number && number <= all.len()
+}
+
+/// `refused item N of COUNT`.
+fn missing_item_line(alloc: Global, number: usize, count: usize) -> Result<String, AllocError>
+    ensures { IfOk result (λ line. string_bytes line ≡ no_item_line number count) }
+{
+    format!(in alloc; "refused item {number} of {count}\n")
+}
+
+/// The line for an item that does not exist, and the status.
+pub(crate) fn output_of_missing_item(
+    alloc: Global,
+    number: usize,
+    count: usize,
+) -> Result<Output, AllocError>
+    ensures text { IfOk result (λ output. output.text.items ≡ no_item_line number count) }
+    ensures status { IfOk result (λ output. output.status ≡ Refused) }
+{
+    let line = missing_item_line(alloc, number, count)?;
+    Ok(Output::new(line, Status::Refused))
 }

@@ -2,8 +2,8 @@
 ghost use Rattle.pst_judge.specs.Judgement.{IsJudgement};
 ghost use Rattle.pst_runs.specs.Lawful.{IsLawful};
 
-use crate::compiled::compile_model_of_input;
 use crate::explained_run::run_if_case_and_history_fit_model;
+use crate::input::compile_model_of_input;
 use pst_case::{Case, History, Run};
 use pst_compile::Compiled;
 use pst_explain::explain_item;

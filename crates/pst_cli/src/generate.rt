@@ -2,23 +2,16 @@
 ghost use Rattle.std.specs.Prelude.{◌≡◌, ◌≤◌, ◌<◌, ◌+◌, ◌^◌, ◌-◌, false, IfOk, string_bytes};
 ghost use Rattle.std.specs.List.{AllZip, range_with_len};
 ghost use Rattle.pst_cli.specs.Generating.{EndsCases, EndsLines, IsLineOf};
-ghost use Rattle.pst_cli.specs.GenerateOutput.{
-  IsGenerateOutput,
-  fault_line,
-  genfault_fields,
-  genfault_line,
-  memory_in,
-  refusal_in,
-};
+ghost use Rattle.pst_cli.specs.GenerateOutput.{IsGenerateOutput, fault_line, genfault_fields, genfault_line, memory_in, refusal_in};
 ghost use Rattle.pst_cli.specs.Sending.{PrintsElse, Sends};
-ghost use Rattle.pst_cli.specs.declared.status.Status.TheVariants.{Lost, Refused};
+ghost use Rattle.pst_cli.specs.declared.output.Status.TheVariants.{Lost, Refused};
 ghost use Rattle.pst_trial.specs.Settings.{AreInRange};
 
-use crate::convert::{ItemForm, item_line_in_form};
+use crate::model_commands::{ItemForm, item_line_in_form};
 use crate::objects::{MEMORY_OBJECT, output_of_refusal_json_object};
-use crate::output::{Output, joined_outputs_with_worst_status, write_with_status_or_lost};
-use crate::refusal::refusal_output;
-use crate::status::Status;
+use crate::output::{
+    Output, Status, joined_outputs_with_worst_status, refusal_output, write_with_status_or_lost,
+};
 use crate::stream::Cut;
 use pst_case::Run;
 use pst_eval::FaultPlace;

@@ -6,12 +6,10 @@ ghost use Rattle.pst_cli.specs.Output.{AreJudged};
 ghost use Rattle.pst_cli.specs.Sending.{Prints};
 ghost use Rattle.pst_runs.specs.Lawful.{AreLawful};
 
-use crate::chosen::output_of_missing_item;
+use crate::explain::output_of_missing_item;
+use crate::input::{JudgedFile, Keep, concatenate_run_lists, read_and_judge_file};
 use crate::judge::{is_explained_or_valid, status_of_judgements};
-use crate::judged::{JudgedFile, concatenate_run_lists, read_and_judge_file};
-use crate::kept::Keep;
-use crate::output::{Output, write_with_status_or_lost};
-use crate::status::Status;
+use crate::output::{Output, Status, write_with_status_or_lost};
 use pst_case::Run;
 use pst_compile::Compiled;
 use pst_explain::graphviz_text_of_item_search;

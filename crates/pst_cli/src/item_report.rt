@@ -8,9 +8,8 @@ ghost use Rattle.pst_system.specs.Kept.{AreKept};
 
 use crate::counts::ItemResultCounts;
 use crate::lines::item_verdict_line;
-use crate::output::Output;
+use crate::output::{Output, Status};
 use crate::run::{status_of_judgement, tree_line_of_run};
-use crate::status::Status;
 use pst_case::{History, Run, Shaped};
 use pst_compile::Compiled;
 use pst_driver::DriveFault;

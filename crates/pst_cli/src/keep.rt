@@ -1,31 +1,15 @@
 //! `pst judge --keep-going`.
 ghost use Rattle.std.specs.Prelude.{◌≡◌, ◌+◌, ◌++◌, false, IfOk, IfSome, MatchResult, OnOk, string_bytes};
-ghost use Rattle.pst_cli.specs.KeepingOn.{
-  HoldsAnswers,
-  IsKeepingOnOutput,
-  IsShownKeepingOn,
-  answer_line,
-  answer_lines,
-  answer_status,
-  failed_answer_line,
-  failed_answer_lines,
-  is_good_answer,
-  shown_answer_lines,
-  worst_status,
-};
+ghost use Rattle.pst_cli.specs.KeepingOn.{HoldsAnswers, IsKeepingOnOutput, IsShownKeepingOn, answer_line, answer_lines, answer_status, failed_answer_line, failed_answer_lines, is_good_answer, shown_answer_lines, worst_status};
 ghost use Rattle.pst_cli.specs.Sending.{Prints};
-ghost use Rattle.pst_cli.specs.declared.status.Status.TheVariants.{Accepted};
+ghost use Rattle.pst_cli.specs.declared.output.Status.TheVariants.{Accepted};
 ghost use Rattle.pst_typing.specs.Loading.{IsRefusal};
 
-use crate::compiled::{CompiledModelAndTrees, compile_model_of_input};
+use crate::input::{CompiledModelAndTrees, compile_model_of_input, prove_compiled_models_are_sync};
 use crate::judge::{is_explained_or_valid, refused_run_line};
-use crate::lines::add_item_verdict_line;
-use crate::output::{Output, write_with_status_or_lost};
-use crate::refusal::refusal_output;
+use crate::lines::{Shown, add_item_verdict_line};
+use crate::output::{Output, Status, refusal_output, write_with_status_or_lost};
 use crate::run::status_of_judgement;
-use crate::sharing::prove_compiled_models_are_sync;
-use crate::shown::Shown;
-use crate::status::Status;
 use pst_rejudge::{ItemResult, ProgressCounter, read_and_judge_each_tree};
 use pst_runs::RunFault;
 use pst_sexpr::Sink;

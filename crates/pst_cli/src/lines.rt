@@ -1,15 +1,23 @@
-//! The lines of judged items.
+//! The lines of judged items, and which items have a line.
 ghost use Rattle.std.specs.Prelude.{◌≡◌, ◌++◌, IfOk, OnOk, string_bytes};
 ghost use Rattle.pst_cli.specs.Output.{failure_line, failure_lines, item_line, item_lines, shown_lines};
 ghost use Rattle.pst_cli.specs.Rows.{IsRow, first_of};
 
+use crate::input::prove_judgements_are_sync;
 use crate::judge::is_explained_or_valid;
-use crate::sharing::prove_judgements_are_sync;
-use crate::shown::Shown;
 use pst_judge::Judged;
 use rayon::prelude::*;
 use std::alloc::{AllocError, Global};
 use std::thread::Threads;
+
+/// Which items have a line in the output.
+#[derive(Clone, Copy, Debug, PartialEq, Eq, Drop)]
+pub enum Shown {
+    /// All of them.
+    All,
+    /// Those that are neither explained nor valid, and those that are refused.
+    Failures,
+}
 
 /// How many items a row has; the last row may have fewer.
 const ROW: usize = 512;

@@ -1,18 +1,9 @@
 //! `pst judge` and `pst check` with `--format json`.
 ghost use Rattle.std.specs.Prelude.{◌≡◌, ◌++◌, false, IfOk, IfSome, OnOk};
-ghost use Rattle.pst_cli.specs.JsonOutput.{
-  IsCheckJson,
-  IsJudgeJson,
-  IsModelObject,
-  answer_object,
-  memory_object,
-  refusal_object,
-  shown_object,
-  shown_objects,
-};
+ghost use Rattle.pst_cli.specs.JsonOutput.{IsCheckJson, IsJudgeJson, IsModelObject, answer_object, memory_object, refusal_object, shown_object, shown_objects};
 ghost use Rattle.pst_cli.specs.KeepingOn.{HoldsAnswers};
 ghost use Rattle.pst_cli.specs.Sending.{PrintsElse};
-ghost use Rattle.pst_cli.specs.declared.status.Status.TheVariants.{Refused};
+ghost use Rattle.pst_cli.specs.declared.output.Status.TheVariants.{Refused};
 ghost use Rattle.pst_rejudge.specs.Objects.{object_line};
 ghost use Rattle.pst_rejudge.specs.Verdicts.{accepted_fields};
 
@@ -20,9 +11,8 @@ use crate::keep::{
     FileWithItemResults, is_result_explained_or_valid, judge_each_item_of_input,
     worst_status_of_item_results,
 };
-use crate::output::{Output, write_with_status_or_lost};
-use crate::shown::Shown;
-use crate::status::Status;
+use crate::lines::Shown;
+use crate::output::{Output, Status, write_with_status_or_lost};
 use pst_model::Typed;
 use pst_rejudge::{
     ItemResult, ProgressCounter, accepted_model_fields, json_object_line, judged_item_fields,

@@ -5,13 +5,13 @@ ghost use Rattle.pst_cli.specs.Sending.{Prints};
 ghost use Rattle.pst_runs.specs.Lawful.{AreLawful};
 ghost use Rattle.pst_system.specs.Kept.{AreKept};
 
-use crate::compiled::compile_model_of_input;
 use crate::counts::ItemResultCounts;
+use crate::input::compile_model_of_input;
 use crate::judge::{output_of_refused_run, read_runs_of_trees};
-use crate::output::{Output, joined_outputs_with_worst_status, write_with_status_or_lost};
-use crate::refusal::refusal_output;
+use crate::output::{
+    Output, Status, joined_outputs_with_worst_status, refusal_output, write_with_status_or_lost,
+};
 use crate::run::{drive_and_report_valid_case, invalid_case_line};
-use crate::status::Status;
 use pst_case::{Run, Shaped};
 use pst_compile::Compiled;
 use pst_judge::{Valid, valid};

@@ -2,14 +2,13 @@
 ghost use Rattle.std.specs.Prelude.{◌≡◌, false};
 ghost use Rattle.pst_runs.specs.Lawful.{AreLawful};
 
-use crate::compiled::compile_model_of_input;
 use crate::counts::ItemResultCounts;
+use crate::input::compile_model_of_input;
 use crate::item_report::{ItemReport, drive_case_and_report_item, status_of_item_report};
 use crate::judge::read_runs_of_trees;
 use crate::objects::{MEMORY_OBJECT, output_of_refusal_json_object};
-use crate::output::{Output, write_with_status_or_lost};
+use crate::output::{Output, Status, write_with_status_or_lost};
 use crate::repeat::first_failed_or_latest_drive_counts;
-use crate::status::Status;
 use pst_case::{Run, Shaped};
 use pst_compile::Compiled;
 use pst_driver::DriveFault;

@@ -1,19 +1,13 @@
-//! `pst judge --stream`.
+//! `pst judge --stream`, and the refused lines of a stream, for messages on them.
 ghost use Rattle.std.specs.Prelude.{◌≡◌, ◌+◌, ◌++◌, ℕ, List, Some, false, length, IfOk, MatchResult, OnOk, string_bytes};
 ghost use Rattle.pst_cli.specs.Sending.{Prints};
 ghost use Rattle.pst_cli.specs.Streaming.{EndsBlock, EndsStream, cut_of};
 ghost use Rattle.pst_cli.specs.StreamOutput.{IsStreamOutput};
 
-use crate::compiled::compile_model_of_input;
 use crate::counts::ItemResultCounts;
+use crate::input::{compile_model_of_input, prove_compiled_models_are_sync};
 use crate::keep::{numbered_item_result_lines, worst_status_after_item_results};
-use crate::output::write_with_status_or_lost;
-use crate::refusal::refusal_output;
-use crate::refused_lines::{
-    EndedLines, RefusedLineReceiver, copy_begun_line_if_wanted, hand_over_refused_lines_if_wanted,
-};
-use crate::sharing::prove_compiled_models_are_sync;
-use crate::status::Status;
+use crate::output::{Status, refusal_output, write_with_status_or_lost};
 use pst_compile::Compiled;
 use pst_rejudge::{ItemResult, ProgressCounter, StreamFault, read_once_and_judge_ended_lines};
 use pst_sexpr::{Sink, WriteFailed, put_all};
@@ -203,5 +197,88 @@ pub fn judge_stream<I: Read, W: Sink, R: Threads + Sync, L: RefusedLineReceiver>
         Err(Cut::Unread) => write_with_status_or_lost(b"refused file\n", Status::Refused, sink),
         Err(Cut::NoMemory) => write_with_status_or_lost(b"refused memory\n", Status::Lost, sink),
         Err(Cut::Unwritten) => Status::Lost,
+    }
+}
+
+/// One who takes the refused lines of a stream as they come. It changes nothing of what is written for them.
+pub trait RefusedLineReceiver {
+    /// Returns whether it takes further lines.
+    fn takes_more_lines(&self) -> bool;
+
+    /// Takes a refused line, without its end, once its verdict is written. `number` counts the lines of the stream
+    /// from 1. A line that is longer than a file may be is cut, but stays longer than that.
+    fn take(&mut self, number: usize, line: &[u8]);
+}
+
+/// Lines that ended within one read of a stream.
+#[derive(Clone, Copy, Drop)]
+pub(crate) struct EndedLines<'a> {
+    /// How many lines came before them.
+    pub before: usize,
+    /// The bytes of the read, or none if the stream has ended.
+    pub read: &'a [u8],
+    /// The answers to the lines.
+    pub answers: &'a [ItemResult],
+}
+
+/// Returns a copy of the beginning of a line that has not ended, if `lines` takes further lines.
+fn copy_begun_line_if_wanted<L: RefusedLineReceiver>(
+    alloc: Global,
+    lines: &L,
+    begun: &[u8],
+) -> Result<Option<Vec<u8>>, AllocError> {
+    if !lines.takes_more_lines() {
+        return Ok(None);
+    }
+    let mut copy = Vec::new(alloc);
+    copy.extend_from_slice(begun)?;
+    Ok(Some(copy))
+}
+
+/// Returns the place of the first line end from `from` on, or the end of the bytes.
+fn place_of_newline_or_end(bytes: &[u8], from: usize) -> usize {
+    for at in from..bytes.len() {
+        if bytes.get(at) == Some(&b'\n') {
+            return at;
+        }
+    }
+    bytes.len()
+}
+
+/// Hands over the refused lines among `ended`. `begun` is the beginning of the first line.
+fn hand_over_refused_lines<L: RefusedLineReceiver>(
+    lines: &mut L,
+    begun: Vec<u8>,
+    ended: EndedLines<'_>,
+) -> Result<(), AllocError> {
+    let mut line = begun;
+    let mut start = 0;
+    let mut number = ended.before;
+    for answer in ended.answers {
+        number = number.saturating_add(1);
+        let end = place_of_newline_or_end(ended.read, start);
+        if let ItemResult::Refused { .. } = answer {
+            line.extend_from_slice(ended.read.get(start..end).unwrap_or(&[]))?;
+            lines.take(number, line.as_slice());
+        }
+        line.clear();
+        start = end.saturating_add(1);
+    }
+    Ok(())
+}
+
+/// Hands over the refused lines among `ended`, if there are some. `begun` is the beginning of the first line, if
+/// `lines` takes further lines. Hands over none if an allocation fails.
+fn hand_over_refused_lines_if_wanted<L: RefusedLineReceiver>(
+    lines: &mut L,
+    begun: Result<Option<Vec<u8>>, AllocError>,
+    ended: EndedLines<'_>,
+) {
+    let Ok(Some(begun)) = begun else {
+        return;
+    };
+    let is_refused = |answer: &ItemResult| matches!(answer, ItemResult::Refused { .. });
+    if ended.answers.iter().any(is_refused) {
+        let _ = hand_over_refused_lines(lines, begun, ended);
     }
 }

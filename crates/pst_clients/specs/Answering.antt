@@ -3,10 +3,10 @@ use Rattle.std.specs.Prelude.{◌≡◌, ℕ, nat_eq, Bool, true, false, List, O
 use Rattle.std.specs.List.{starts_with}
 use Rattle.json.specs.Json.{Json, document}
 use Rattle.json.specs.Strict.{HasUniqueKeys}
-use Rattle.pst_clients.specs.declared.answers.ClientAnswer.{ClientAnswer}
-use Rattle.pst_clients.specs.declared.answers.ClientAnswer.TheVariants as answer
+use Rattle.pst_clients.specs.declared.protocol.ClientAnswer.{ClientAnswer}
+use Rattle.pst_clients.specs.declared.protocol.ClientAnswer.TheVariants as answer
 use Rattle.pst_json_runs.specs.Reading.{value_in}
-use Rattle.pst_system.specs.declared.call.RealCall.{RealCall}
+use Rattle.pst_system.specs.declared.system.RealCall.{RealCall}
 use Rattle.pst_value.specs.declared.ty.Ty.{Ty}
 use Rattle.pst_value.specs.declared.value.Value.{Value}
 

@@ -6,7 +6,7 @@ use Rattle.json.specs.Print.{print}
 use Rattle.json.specs.Tree.{json_tokens}
 use Rattle.json.specs.Value.{items_of}
 use Rattle.pst_json_runs.specs.Writing.{json_of}
-use Rattle.pst_system.specs.declared.call.RealCall.{RealCall}
+use Rattle.pst_system.specs.declared.system.RealCall.{RealCall}
 
 -- the array of a call's name and arguments
 abbrev pub call_json : RealCall → Json

@@ -2,12 +2,12 @@
 ghost use Rattle.std.specs.Prelude.{◌≡◌, ⊤, IfOk};
 ghost use Rattle.pst_clients.specs.Answering.{Answered};
 
-use crate::ahead::ReadAhead;
-use crate::answers::{ClientAnswer, client_answer_of_line};
-use crate::calls::client_call_line;
-use crate::connection::{ClientState, Connection, LostAnswer};
-use crate::hints::{hint_on_answer_of_wrong_type, hint_on_answer_without_value};
+use crate::connection::{ClientState, Connection, LostAnswer, ReadAhead};
 use crate::notes::{BadlyAnsweredLine, ClientId, NoteKind, Notes};
+use crate::protocol::{
+    ClientAnswer, client_answer_of_line, client_call_line, hint_on_answer_of_wrong_type,
+    hint_on_answer_without_value,
+};
 use pst_system::{CallFault, RealCall, System};
 use pst_value::{Items, Ty, Value};
 use std::alloc::{AllocError, Global};

@@ -1,12 +1,10 @@
-//! One client, at the other end of two pipes.
+//! One client, at the other end of two pipes: what it is sent, what it answers and what else it prints.
 ghost use Rattle.std.specs.Prelude.{◌≡◌, ◌≢◌, ◌≤◌, [], ◌∷◌, ◌++◌, All, IfOk, OnOk, Err, length, string_bytes};
 ghost use Rattle.std.specs.Io.KnownBytes.{Appends, Consumes};
 
-use crate::ahead::ReadAhead;
-use crate::printed::{LAST_LINE, PrintedByClient};
-use std::alloc::Global;
+use std::alloc::{AllocError, Global};
 use std::fs::OpenOptions;
-use std::io::{self, Read, Write};
+use std::io::{self, BufReader, Read, Write};
 use std::rt::Files;
 
 /// The maximum number of bytes of a line of a client, its end not counted.
@@ -17,7 +15,7 @@ const REVIVE: &str = "[\"revive\"]\n";
 
 /// The character before what the launcher reports of a client. The client may have begun a line before it
 /// ended. No JSON contains this character.
-pub(crate) const MARK: char = '\x18';
+const MARK: char = '\x18';
 
 /// After how many resets with an unusual answer it is worth while to wait for another line.
 const MOST_WAITS: u32 = 3;
@@ -303,5 +301,83 @@ impl<I: Read + ReadAhead, O: Write> Connection<I, O> {
                 self.state = ClientState::Open;
             }
         }
+    }
+}
+
+/// The line that this program writes to the pipe of the answers, to read up to it. The launcher writes no such
+/// line.
+const LAST_LINE: &[u8] = b"\x18pst\n";
+
+/// What `LAST_LINE` has after its mark.
+const LAST: &str = "pst";
+
+/// The lines that a client printed, up to the last one.
+#[derive(Drop)]
+pub(crate) struct PrintedByClient {
+    /// The first line, or the beginning of a line.
+    pub(crate) first: Option<String>,
+    /// Whether the launcher says that the client has ended.
+    pub(crate) has_ended: bool,
+    /// Whether the last line is read, which this program wrote.
+    pub(crate) is_whole: bool,
+}
+
+impl PrintedByClient {
+    /// No lines.
+    pub(crate) fn new() -> PrintedByClient {
+        PrintedByClient {
+            first: None,
+            has_ended: false,
+            is_whole: false,
+        }
+    }
+
+    /// Keeps the text of a line if it is the first one. In a line with a mark, the text is what comes before the mark,
+    /// if that is not empty, and the mark sets `is_whole` if this program wrote it, or else `has_ended`.
+    pub(crate) fn record_first_line_or_mark(
+        &mut self,
+        alloc: Global,
+        line: &str,
+    ) -> Result<(), AllocError> {
+        let Some((text, how)) = line.split_once(MARK) else {
+            return self.keep_text_if_first(alloc, line);
+        };
+        if how == LAST {
+            self.is_whole = true;
+        } else {
+            self.has_ended = true;
+        }
+        if text.is_empty() {
+            Ok(())
+        } else {
+            self.keep_text_if_first(alloc, text)
+        }
+    }
+
+    /// Keeps a line, or the beginning of one, that the client printed, if it is the first.
+    fn keep_text_if_first(&mut self, alloc: Global, text: &str) -> Result<(), AllocError> {
+        if self.first.is_none() {
+            self.first = Some(String::from_str(alloc, text)?);
+        }
+        Ok(())
+    }
+}
+
+/// A reader that may read more of a pipe than is wanted of it.
+pub trait ReadAhead {
+    /// The next byte, if it is read from the pipe already.
+    fn next_byte_read_ahead(&self) -> Option<u8>;
+}
+
+impl<R: Read> ReadAhead for BufReader<R> {
+    fn next_byte_read_ahead(&self) -> Option<u8> {
+        self.buffer().first().copied()
+    }
+}
+
+/// Known bytes are read one at a time, as they are wanted.
+impl ReadAhead for &[u8] {
+    fn next_byte_read_ahead(&self) -> Option<u8> {
+        None
     }
 }

@@ -16,7 +16,7 @@ use Rattle.pst_eval.specs.Callbacks.{max_turns, at_names, init_of, command_of, p
 use Rattle.pst_model.specs.Fitting.{is_state, args_fit, args_fit_in}
 use Rattle.pst_eval.proofs.Calls.{init_is, init_starts, command_is, command_starts, pre_is, pre_starts, next_is, next_starts, post_is, post_starts}
 use Rattle.pst_eval.proofs.Table.{the_operation}
-use Rattle.pst_machine.specs.declared.instruction.FunCode.{FunCode}
+use Rattle.pst_machine.specs.declared.code.FunCode.{FunCode}
 use Rattle.pst_machine.specs.Machine.{Regs, filled, End}
 use Rattle.std.specs.Prelude.{IfOk}
 use Rattle.std.specs.declared.alloc.AllocError.{AllocError}

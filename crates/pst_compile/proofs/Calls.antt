@@ -11,9 +11,9 @@ use Rattle.pst_model.specs.declared.model.Param.{Param}
 use Rattle.pst_value.specs.declared.value.Value.{Value}
 use Rattle.pst_eval.specs.Meaning.{Env, Mean, Run, Called, ◌>>=◌, ◌>>◌, lift, frame, bound, applied, all}
 use Rattle.pst_operators.specs.Outcome.{Outcome, Gives, Faults, Stuck, and_then, or_stuck, turn}
-use Rattle.pst_machine.specs.declared.instruction.Instr.{Instr}
-use Rattle.pst_machine.specs.declared.instruction.Instr.TheVariants.{Apply, Return}
-use Rattle.pst_machine.specs.declared.instruction.FunCode.{FunCode}
+use Rattle.pst_machine.specs.declared.code.Instr.{Instr}
+use Rattle.pst_machine.specs.declared.code.Instr.TheVariants.{Apply, Return}
+use Rattle.pst_machine.specs.declared.code.FunCode.{FunCode}
 use Rattle.pst_machine.specs.declared.machine.Frame.{Frame}
 use Rattle.pst_machine.specs.Machine.{Regs, read, write, read_all, State, Continues, using, opening, filled, empty_regs, return_to, body_of, fetch, step, with_turn}
 use Rattle.pst_compile.specs.Code.{Block, one, ◌then◌, Scope, Coded, load, at, load_all, all_at, apply_to, code as code_of, parameter_scope, body_code, no_name}

@@ -9,9 +9,9 @@ use Rattle.pst_model.specs.declared.model.Item.{Item}
 use Rattle.pst_model.specs.declared.model.Item.TheVariants as item
 use Rattle.pst_model.specs.declared.model.Op.{Op}
 use Rattle.pst_model.specs.WellTyped.{name_s}
-use Rattle.pst_machine.specs.declared.instruction.FunCode.{FunCode}
-use Rattle.pst_machine.specs.declared.instruction.Instr.{Instr}
-use Rattle.pst_machine.specs.declared.instruction.Instr.TheVariants.{Return}
+use Rattle.pst_machine.specs.declared.code.FunCode.{FunCode}
+use Rattle.pst_machine.specs.declared.code.Instr.{Instr}
+use Rattle.pst_machine.specs.declared.code.Instr.TheVariants.{Return}
 use Rattle.pst_machine.specs.Lawful.{body_fits, fun_fits, code_fits}
 use Rattle.pst_compile.specs.Code.{Scope, load, at, code as code_of, body_code, functions, number, parameter_scope}
 use Rattle.pst_compile.specs.Functions.{frame_size, fun_code, functions_code, optional_code, operations_code, callbacks_code, whole_code, state_scope, result_scope}

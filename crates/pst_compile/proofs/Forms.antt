@@ -8,9 +8,9 @@ use Rattle.pst_eval.specs.Meaning.{Env, looked_up, Mean, Run, ◌>>=◌, lift, p
 use Rattle.pst_operators.specs.Maps as maps
 use Rattle.pst_operators.specs.Operators.{truth_of, bool, binary}
 use Rattle.pst_operators.specs.Outcome.{Outcome, Gives, Faults, Stuck, and_then}
-use Rattle.pst_machine.specs.declared.instruction.Instr.{Instr}
-use Rattle.pst_machine.specs.declared.instruction.Instr.TheVariants.{Const, Move, Take, Binary, Put}
-use Rattle.pst_machine.specs.declared.instruction.FunCode.{FunCode}
+use Rattle.pst_machine.specs.declared.code.Instr.{Instr}
+use Rattle.pst_machine.specs.declared.code.Instr.TheVariants.{Const, Move, Take, Binary, Put}
+use Rattle.pst_machine.specs.declared.code.FunCode.{FunCode}
 use Rattle.pst_machine.specs.declared.machine.Frame.{Frame}
 use Rattle.pst_machine.specs.Machine.{Regs, read, write, cleared, put, execute, using, advance}
 use Rattle.pst_compile.specs.Code.{Block, one, ◌then◌, nothing, where_true, choice, Scope, find, move_from, Coded, load, at, no_name, to_either}

@@ -6,7 +6,7 @@ use Rattle.pst_model.specs.Parts.{Name}
 use Rattle.pst_value.specs.declared.value.Value.{Value}
 use Rattle.pst_eval.specs.Meaning.{Env, looked_up, Mean, lift}
 use Rattle.pst_operators.specs.Outcome.{Outcome, Gives, Faults, Stuck}
-use Rattle.pst_machine.specs.declared.instruction.FunCode.{FunCode}
+use Rattle.pst_machine.specs.declared.code.FunCode.{FunCode}
 use Rattle.pst_machine.specs.declared.machine.Frame.{Frame}
 use Rattle.pst_machine.specs.Machine.{Regs, read, write, cleared}
 use Rattle.pst_compile.specs.Code.{Scope, find, Coded, own, unless_own, place, load, at}

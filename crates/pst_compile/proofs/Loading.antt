@@ -1,7 +1,7 @@
 -- One step of the loop over operands.
 use Rattle.std.proofs.Common.{◌≡◌, ℕ, ◌+◌, ◌<◌, List, [], ◌∷◌, ◌++◌, length, map, drop, get_or, sym, ap, ◌∙◌, append_assoc}
 use Rattle.pst_model.specs.declared.expr.Expr.{Expr}
-use Rattle.pst_machine.specs.declared.instruction.Instr.{Instr}
+use Rattle.pst_machine.specs.declared.code.Instr.{Instr}
 use Rattle.pst_eval.proofs.Steps.{split_at}
 use Rattle.pst_compile.specs.Code.{Scope, Coded, load, at, load_all, all_at}
 

@@ -11,8 +11,8 @@ use Rattle.pst_value.specs.declared.value.Value.{Value}
 use Rattle.pst_eval.specs.Meaning.{Mean, Part, Run, Called, called, applied, mean, part, mean_at, part_at}
 use Rattle.pst_operators.specs.Maps.{map_of}
 use Rattle.pst_operators.specs.Operators.{int, bool, text, list, tuple, item as item_of, unary}
-use Rattle.pst_machine.specs.declared.instruction.Instr.TheVariants.{Unary, At, Tuple, List as MakeList}
-use Rattle.pst_machine.specs.declared.instruction.FunCode.{FunCode}
+use Rattle.pst_machine.specs.declared.code.Instr.TheVariants.{Unary, At, Tuple, List as MakeList}
+use Rattle.pst_machine.specs.declared.code.FunCode.{FunCode}
 use Rattle.pst_machine.specs.declared.machine.Frame.{Frame}
 use Rattle.pst_machine.specs.Machine.{Regs}
 use Rattle.pst_compile.specs.Code.{Coded, CodedPart, code_at, coded_part_at, code as code_of, part_code, functions, number, parameter_scope, apply_to}

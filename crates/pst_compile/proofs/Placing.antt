@@ -7,8 +7,8 @@ use Rattle.pst_model.specs.declared.expr.Clause.{Clause, Clause-F, map-Clause, f
 use Rattle.pst_model.specs.declared.expr.Expr.{Expr, Expr-F, map-Expr, fold-roll-Expr, ind-Expr}
 use Rattle.pst_model.specs.declared.model.Item.{Item}
 use Rattle.pst_model.specs.declared.model.Item.TheVariants as item
-use Rattle.pst_machine.specs.declared.instruction.Instr.{Instr}
-use Rattle.pst_machine.specs.declared.instruction.Instr.TheVariants.{Move, Call, Apply}
+use Rattle.pst_machine.specs.declared.code.Instr.{Instr}
+use Rattle.pst_machine.specs.declared.code.Instr.TheVariants.{Move, Call, Apply}
 use Rattle.pst_compile.specs.Code.{Block, one, ◌then◌, Scope, Coded, CodedPart, own, unless_own, load, load_all, visit_code, find, move_from, apply_to, call_to, no_name, to_either, code_at, coded_part_at, code as code_of, part_code, functions, number}
 use Rattle.pst_compile.proofs.Lawful.{Placed, Lawful, lawful_nothing, lawful_then, lawful_where, lawful_choice, lawful_each}
 

@@ -5,9 +5,9 @@ use Rattle.pst_value.specs.declared.value.Value.{Value}
 use Rattle.pst_eval.specs.Meaning.{Env, Mean, ◌>>=◌, lift, pure, all, all_from, call_of}
 use Rattle.pst_operators.specs.Operators.{call}
 use Rattle.pst_operators.specs.Outcome.{Gives, Stuck, and_then}
-use Rattle.pst_machine.specs.declared.instruction.Instr.{Instr}
-use Rattle.pst_machine.specs.declared.instruction.Instr.TheVariants.{Call}
-use Rattle.pst_machine.specs.declared.instruction.FunCode.{FunCode}
+use Rattle.pst_machine.specs.declared.code.Instr.{Instr}
+use Rattle.pst_machine.specs.declared.code.Instr.TheVariants.{Call}
+use Rattle.pst_machine.specs.declared.code.FunCode.{FunCode}
 use Rattle.pst_machine.specs.declared.machine.Frame.{Frame}
 use Rattle.pst_machine.specs.Machine.{Regs, read, read_all, put, execute}
 use Rattle.pst_compile.specs.Code.{Block, one, ◌then◌, Scope, Coded, load, at, load_all, all_at, call_to, no_name}

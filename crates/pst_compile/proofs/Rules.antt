@@ -7,8 +7,8 @@ use Rattle.pst_value.specs.declared.value.Value.{Value}
 use Rattle.pst_eval.specs.Meaning.{lift}
 use Rattle.pst_operators.specs.Operators.{truth_of, items_of, int, list}
 use Rattle.pst_operators.specs.Outcome.{Outcome, Gives, Faults, Stuck, and_then, turn}
-use Rattle.pst_machine.specs.declared.instruction.Instr.TheVariants.{Jump, Unless, Loop}
-use Rattle.pst_machine.specs.declared.instruction.FunCode.{FunCode}
+use Rattle.pst_machine.specs.declared.code.Instr.TheVariants.{Jump, Unless, Loop}
+use Rattle.pst_machine.specs.declared.code.FunCode.{FunCode}
 use Rattle.pst_machine.specs.declared.machine.Frame.{Frame}
 use Rattle.pst_machine.specs.Machine.{Regs, read, write, Continues, using, fetch, step, index_of, next_item}
 use Rattle.pst_compile.specs.Code.{Block, ◌then◌, nothing, where_true, choice, each}

@@ -7,8 +7,8 @@ use Rattle.pst_value.specs.declared.value.Value.{Value}
 use Rattle.pst_eval.specs.Meaning.{Env, Mean, Part, Run, ◌>>=◌, lift, pure, visit, visit_each, comprehension, fold_over}
 use Rattle.pst_operators.specs.Operators.{truth_of, items_of, append, int, list}
 use Rattle.pst_operators.specs.Outcome.{Outcome, Gives, Faults, Stuck, and_then, turn}
-use Rattle.pst_machine.specs.declared.instruction.Instr.TheVariants.{Const, Take, Append}
-use Rattle.pst_machine.specs.declared.instruction.FunCode.{FunCode}
+use Rattle.pst_machine.specs.declared.code.Instr.TheVariants.{Const, Take, Append}
+use Rattle.pst_machine.specs.declared.code.FunCode.{FunCode}
 use Rattle.pst_machine.specs.declared.machine.Frame.{Frame}
 use Rattle.pst_machine.specs.Machine.{Regs, read, write, put}
 use Rattle.pst_compile.specs.Code.{Block, one, ◌then◌, where_true, each, Scope, Coded, CodedPart, load, at, visit_code, no_name}

@@ -5,8 +5,8 @@ use Rattle.pst_model.specs.declared.model.Item.{Item}
 use Rattle.pst_value.specs.declared.value.Value.{Value}
 use Rattle.pst_eval.specs.Meaning.{Env, called, mean}
 use Rattle.pst_operators.specs.Outcome.{Gives, Faults, Stuck, or_stuck}
-use Rattle.pst_machine.specs.declared.instruction.Instr.TheVariants.{Return}
-use Rattle.pst_machine.specs.declared.instruction.FunCode.{FunCode}
+use Rattle.pst_machine.specs.declared.code.Instr.TheVariants.{Return}
+use Rattle.pst_machine.specs.declared.code.FunCode.{FunCode}
 use Rattle.pst_machine.specs.Machine.{Regs, State, Continues, continue_with, using, opening, filled, empty_regs, return_to, fetch, steps, End, Ends, Runs}
 use Rattle.pst_compile.specs.Code.{Scope, number}
 use Rattle.pst_compile.proofs.Steps.{state_at, one_halt, Reaches, obeys}

@@ -12,8 +12,8 @@ use Rattle.pst_model.specs.declared.model.Param.{Param}
 use Rattle.pst_operators.specs.Maps.{map_of}
 use Rattle.pst_operators.specs.Operators.{int, bool, text, list}
 use Rattle.pst_value.specs.declared.value.Value.{Value}
-use Rattle.pst_machine.specs.declared.instruction.Instr.{Instr}
-use Rattle.pst_machine.specs.declared.instruction.Instr.TheVariants.{Const, Move, Take, Unary, Binary, Put, At, Tuple, List as MakeList, Call, Append, Jump, Unless, Apply, Loop, Return}
+use Rattle.pst_machine.specs.declared.code.Instr.{Instr}
+use Rattle.pst_machine.specs.declared.code.Instr.TheVariants.{Const, Move, Take, Unary, Binary, Put, At, Tuple, List as MakeList, Call, Append, Jump, Unless, Apply, Loop, Return}
 
 -- ---- blocks
 

@@ -1,6 +1,6 @@
 -- What the borrowed names and the context of the compiler stand for.
 use Rattle.std.specs.Prelude.{ℕ, ◌∷◌, reverse, Option}
-use Rattle.pst_machine.specs.declared.instruction.FunCode.{FunCode}
+use Rattle.pst_machine.specs.declared.code.FunCode.{FunCode}
 use Rattle.pst_eval.specs.declared.context.Context.{Context}
 use Rattle.pst_model.specs.declared.expr.Clause.{Clause}
 use Rattle.pst_model.specs.declared.expr.Expr.{Expr}

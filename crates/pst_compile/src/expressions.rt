@@ -1,20 +1,18 @@
 //! The code of expressions.
-
 ghost use Rattle.std.specs.Prelude.{◌≡◌, map, IfOk};
 ghost use Rattle.pst_compile.specs.Code as spec;
 ghost use Rattle.pst_compile.specs.Scopes.{scope_of, code_in, numbers_in};
 ghost use Rattle.pst_model.specs.Parts.{operation_number};
 
 use crate::blocks::{
-    Block, append_instruction, code_skipped_unless_true, concat_code, empty_map, if_else_code,
-    single_instruction,
+    Block, Target, append_instruction, code_skipped_unless_true, concat_code, empty_map,
+    if_else_code, single_instruction,
 };
 use crate::loops::{fold_code, for_code};
-use crate::names::Names;
-use crate::operands::{
-    Operand, Operands, apply_instruction_code, call_instruction_code, name_code, register_if_name,
+use crate::names::{
+    Names, Operand, Operands, apply_instruction_code, call_instruction_code, name_code,
+    register_if_name,
 };
-use crate::target::Target;
 use pst_eval::Context;
 use pst_machine::Instr;
 use pst_model::{Binary, Expr, Unary};

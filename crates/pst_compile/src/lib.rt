@@ -9,13 +9,10 @@
 mod blocks;
 mod compiled;
 mod expressions;
-mod frame_size;
 mod functions;
 mod loops;
 mod names;
-mod operands;
 mod overwriting;
-mod target;
 
 pub use compiled::{Compiled, compile, listing};
 pub use pst_machine::Code;

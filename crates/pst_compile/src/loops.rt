@@ -1,18 +1,15 @@
 //! The code of comprehensions and folds.
-
 ghost use Rattle.std.specs.Prelude.{◌≡◌, map, IfOk};
 ghost use Rattle.pst_compile.specs.Code as spec;
 ghost use Rattle.pst_compile.specs.Scopes.{scope_of, code_in, part_in};
 
 use crate::blocks::{
-    Block, append_instruction, code_skipped_unless_true, concat_code, loop_code,
+    Block, Target, append_instruction, code_skipped_unless_true, concat_code, loop_code,
     prepend_instruction,
 };
 use crate::expressions::{expression_code, operand_code};
-use crate::names::Names;
-use crate::operands::split_first;
+use crate::names::{Names, split_first};
 use crate::overwriting::overwriting_code;
-use crate::target::Target;
 use pst_eval::Context;
 use pst_machine::Instr;
 use pst_model::{Clause, Expr};

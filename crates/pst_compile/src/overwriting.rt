@@ -2,16 +2,13 @@
 //!
 //! A fold keeps what it has built in one register, which its body may read. Each turn overwrites that register
 //! by its last instruction, so that the machine changes a map or a list in place if it is the first operand.
-
 ghost use Rattle.std.specs.Prelude.{◌≡◌, IfOk};
 ghost use Rattle.pst_compile.specs.Code as spec;
 ghost use Rattle.pst_compile.specs.Scopes.{scope_of, code_in};
 
-use crate::blocks::{Block, append_instruction, concat_code, if_else_code};
+use crate::blocks::{Block, Target, append_instruction, concat_code, if_else_code};
 use crate::expressions::{binary_code, expression_code, map_put_code, operand_code};
-use crate::names::Names;
-use crate::operands::name_code;
-use crate::target::Target;
+use crate::names::{Names, name_code};
 use pst_eval::Context;
 use pst_machine::Instr;
 use pst_model::Expr;

@@ -12,8 +12,8 @@ use Rattle.pst_case.specs.declared.history.Reply.TheVariants.{Value as Answered,
 use Rattle.pst_driver.proofs.Real.{Wider, reply_wider, all_driven}
 use Rattle.pst_driver.specs.Driven.{IsDriven, all_answers, none_run}
 use Rattle.pst_driver.specs.Progress.{PartRuns, BranchesRun, IsPartFault, IsBranchFault}
-use Rattle.pst_driver.specs.declared.fault.DriveFault.{DriveFault}
-use Rattle.pst_driver.specs.declared.fault.DriveFault.TheVariants.{ResetFailed, NoThread, NoMemory}
+use Rattle.pst_driver.specs.declared.driving.DriveFault.{DriveFault}
+use Rattle.pst_driver.specs.declared.driving.DriveFault.TheVariants.{ResetFailed, NoThread, NoMemory}
 use Rattle.pst_model.specs.declared.model.Source.{Source}
 use Rattle.pst_system.specs.Kept.{Answers, Fails, ResetFails, AreKept}
 use Rattle.pst_value.specs.declared.value.Value.{Value}

@@ -9,7 +9,7 @@ use Rattle.pst_value.proofs.items.Items.TheSendSync as lists
 use Rattle.pst_value.proofs.text.Text.TheSendSync as texts
 use Rattle.pst_driver.specs.contracts.misfits.Misfit as misfit
 use Rattle.pst_driver.specs.contracts.misfits.Misfits as misfits
-use Rattle.pst_driver.specs.contracts.overheard.MisfitRecorder as overheard
+use Rattle.pst_driver.specs.contracts.misfits.MisfitRecorder as overheard
 use Rattle.pst_model.proofs.expr.Clause.TheLaws.TheKnot as clauses
 use Rattle.pst_model.specs.contracts.expr.Expr as expr
 use Rattle.pst_model.specs.contracts.model.Fun as fun
@@ -17,8 +17,8 @@ use Rattle.pst_model.specs.contracts.model.Item as item
 use Rattle.pst_model.specs.contracts.model.Op as op
 use Rattle.pst_model.specs.contracts.model.Param as param
 use Rattle.pst_model.specs.contracts.model.Source as source
-use Rattle.pst_model.specs.contracts.typed.Typed as typed
-use Rattle.pst_model.specs.contracts.typed.Typed.TheInside as inside
+use Rattle.pst_model.specs.contracts.model.Typed as typed
+use Rattle.pst_model.specs.contracts.model.Typed.TheInside as inside
 use Rattle.pst_value.proofs.ty.Ty.TheLaws.TheKnot as types
 use Rattle.pst_value.specs.contracts.ty.Ty as ty
 use Rattle.pst_value.proofs.value.Value.TheLaws.TheKnot as values

@@ -7,11 +7,11 @@ use Rattle.pst_case.specs.declared.history.Reply.{Reply}
 use Rattle.pst_case.specs.declared.history.Reply.TheVariants.{Value as Answered, Misfit, Failed, NotRun}
 use Rattle.pst_driver.proofs.Real.{Wider, reply_wider}
 use Rattle.pst_driver.specs.Driven.{PartIsDriven, BranchesAreDriven, IsDriven, IsDriveFault, none_run}
-use Rattle.pst_driver.specs.declared.fault.DriveFault.{DriveFault}
-use Rattle.pst_driver.specs.declared.fault.DriveFault.TheVariants.{ResetFailed, NoThread, NoMemory}
+use Rattle.pst_driver.specs.declared.driving.DriveFault.{DriveFault}
+use Rattle.pst_driver.specs.declared.driving.DriveFault.TheVariants.{ResetFailed, NoThread, NoMemory}
 use Rattle.pst_model.specs.declared.model.Source.{Source}
 use Rattle.pst_system.specs.Kept.{Answers, Fails, ResetFails}
-use Rattle.pst_system.specs.declared.call.CallFault.{CallFault}
+use Rattle.pst_system.specs.declared.system.CallFault.{CallFault}
 use Rattle.pst_value.specs.declared.value.Value.{Value}
 
 module _ (m : Source) (A A' : Answers) (F F' : Fails) (wide : Wider A A' F F') where

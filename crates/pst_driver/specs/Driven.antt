@@ -6,16 +6,16 @@ use Rattle.pst_case.specs.declared.case.Command.{Command}
 use Rattle.pst_case.specs.declared.history.History.{History}
 use Rattle.pst_case.specs.declared.history.Reply.{Reply}
 use Rattle.pst_case.specs.declared.history.Reply.TheVariants.{Value as Answered, Misfit, Failed, NotRun}
-use Rattle.pst_driver.specs.declared.fault.DriveFault.{DriveFault}
-use Rattle.pst_driver.specs.declared.fault.DriveFault.TheVariants.{ResetFailed, NoThread, NoMemory}
+use Rattle.pst_driver.specs.declared.driving.DriveFault.{DriveFault}
+use Rattle.pst_driver.specs.declared.driving.DriveFault.TheVariants.{ResetFailed, NoThread, NoMemory}
 use Rattle.pst_model.specs.Fitting.{fits_in}
 use Rattle.pst_case.specs.Recorded.{recorded}
 use Rattle.pst_model.specs.Parts.{operation_of}
 use Rattle.pst_model.specs.declared.model.Op.{Op}
 use Rattle.pst_model.specs.declared.model.Source.{Source}
 use Rattle.pst_system.specs.Kept.{Answers, Fails, ResetFails}
-use Rattle.pst_system.specs.declared.call.CallFault.{CallFault}
-use Rattle.pst_system.specs.declared.call.RealCall.{RealCall}
+use Rattle.pst_system.specs.declared.system.CallFault.{CallFault}
+use Rattle.pst_system.specs.declared.system.RealCall.{RealCall}
 use Rattle.pst_value.specs.Subst.{substituted, plain_of}
 use Rattle.pst_value.specs.declared.value.Value.{Value}
 

@@ -6,8 +6,8 @@ use Rattle.pst_case.specs.declared.case.Command.{Command}
 use Rattle.pst_case.specs.declared.history.Reply.{Reply}
 use Rattle.pst_case.specs.declared.history.Reply.TheVariants.{Value as Answered, Misfit, Failed, NotRun}
 use Rattle.pst_driver.specs.Driven.{IsRealReply, none_run}
-use Rattle.pst_driver.specs.declared.fault.DriveFault.{DriveFault}
-use Rattle.pst_driver.specs.declared.fault.DriveFault.TheVariants.{ResetFailed, NoThread, NoMemory}
+use Rattle.pst_driver.specs.declared.driving.DriveFault.{DriveFault}
+use Rattle.pst_driver.specs.declared.driving.DriveFault.TheVariants.{ResetFailed, NoThread, NoMemory}
 use Rattle.pst_model.specs.Parts.{operation_of}
 use Rattle.pst_model.specs.declared.model.Source.{Source}
 use Rattle.pst_system.specs.Kept.{Answers, Fails}

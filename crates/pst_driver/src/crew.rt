@@ -4,14 +4,12 @@ ghost use Rattle.std.specs.Thread.{IsSend, IsSync};
 ghost use Rattle.pst_driver.specs.Progress.{all_known};
 ghost use Rattle.pst_system.specs.Kept.{AreKept};
 
-use crate::arrivals::StartBarrier;
 use crate::branches::{STACK_BYTES, copy_known_results, prove_model_is_sync};
 use crate::desk::{Delivery, Desk, WorkOrder};
-use crate::fault::DriveFault;
+use crate::driving::DriveFault;
 use crate::part::call_commands_while_replies_are_values;
-use crate::relations::{Relations, SystemWithRelations};
-use crate::subject::Subject;
-use crate::waiter::WaitHandle;
+use crate::subject::{Relations, Subject, SystemWithRelations};
+use crate::waiting::{StartBarrier, WaitHandle};
 use core::thread::{Anything, Stack};
 use pst_case::Command;
 use pst_model::{Typed, operation_of};

@@ -1,5 +1,6 @@
-//! Driving a whole case.
+//! Driving a whole case, and why a case was not driven.
 ghost use Rattle.std.specs.Prelude.{◌≡◌, ◌∷◌, [], true, IfOk, IfErr, MatchBool, MatchOption, map};
+ghost use Rattle.pst_driver.specs.FaultName.{fault_name};
 ghost use Rattle.pst_case.specs.Matches.{matches, replies_of};
 ghost use Rattle.pst_case.specs.Recorded.{recorded, result_of};
 ghost use Rattle.pst_case.specs.Shape.{IsShaped, joined};
@@ -9,7 +10,6 @@ ghost use Rattle.std.specs.List.{list_all};
 ghost use Rattle.pst_system.specs.Kept.{AreKept};
 
 use crate::branches::run_branches_on_threads;
-use crate::fault::DriveFault;
 use crate::part::{add_not_run_replies, call_commands_while_replies_are_values};
 use crate::subject::Subject;
 use pst_case::{Case, Command, History, Reply, results_of_replies};
@@ -20,6 +20,45 @@ use pst_value::Items;
 use std::alloc::{AllocError, Global};
 use std::sync::Wait;
 use std::thread::Threads;
+use thiserror::Error;
+
+/// Why a case was not driven.
+#[derive(Clone, Copy, Debug, PartialEq, Eq, Drop, Error)]
+pub enum DriveFault {
+    /// The system refused its reset.
+    #[error("the reset failed")]
+    ResetFailed,
+    /// The thread of a branch could not be started.
+    #[error("a thread could not be started")]
+    NoThread,
+    /// An allocation failed.
+    #[error("not enough memory")]
+    NoMemory,
+}
+
+impl DriveFault {
+    /// The word for the fault.
+    pub fn name(&self) -> &'static str
+        ensures { result.now ≡ fault_name self.now }
+    {
+        match self {
+            DriveFault::ResetFailed => "ResetFailed",
+            DriveFault::NoThread => "NoThread",
+            DriveFault::NoMemory => "NoMemory",
+        }
+    }
+}
+
+impl From<AllocError> for DriveFault {
+    ghost use Rattle.std.specs.Prelude.{◌≡◌};
+    ghost use Rattle.pst_driver.specs.declared.driving.DriveFault.TheVariants.{NoMemory};
+
+    ghost from_gives = { λ _ e. e ≡ NoMemory };
+
+    fn from(_refused: AllocError) -> DriveFault {
+        DriveFault::NoMemory
+    }
+}
 
 /// Whether each reply is a value.
 pub(crate) fn are_all_replies_values(replies: &[Reply]) -> bool

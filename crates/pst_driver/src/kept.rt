@@ -13,12 +13,11 @@ use crate::branches::{
 use crate::crew::Crew;
 use crate::desk::WorkOrder;
 use crate::driving::{
-    are_all_replies_values, not_run_replies_of_branches, run_suffix_if_replies_are_values,
+    DriveFault, are_all_replies_values, not_run_replies_of_branches,
+    run_suffix_if_replies_are_values,
 };
-use crate::fault::DriveFault;
 use crate::part::call_commands_while_replies_are_values;
-use crate::relations::Relations;
-use crate::subject::Subject;
+use crate::subject::{Relations, Subject};
 use pst_case::{Case, Command, History, Reply, copy_commands, results_of_replies};
 use pst_judge::Valid;
 use pst_model::Typed;

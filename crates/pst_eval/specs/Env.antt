@@ -2,7 +2,7 @@
 use Rattle.std.specs.Prelude.{List, ◌∷◌, map, reverse}
 use Rattle.pst_eval.specs.Meaning.{Env, Called, Mean, Part, frame, called, mean, part}
 use Rattle.pst_eval.specs.declared.context.Context.{Context}
-use Rattle.pst_eval.specs.declared.env.Env.{Env as Bindings, Frame, With'}
+use Rattle.pst_eval.specs.declared.context.Env.{Env as Bindings, Frame, With'}
 use Rattle.pst_model.specs.declared.expr.Clause.{Clause}
 use Rattle.pst_model.specs.declared.expr.Expr.{Expr}
 

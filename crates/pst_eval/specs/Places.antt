@@ -1,7 +1,7 @@
 -- The words that are printed for callbacks.
 use Rattle.std.specs.Prelude.{ℕ, List, codes}
-use Rattle.pst_eval.specs.declared.place.Callback.{Callback}
-use Rattle.pst_eval.specs.declared.place.Callback.TheVariants.{Init, Command, Pre, Next, Post}
+use Rattle.pst_eval.specs.declared.callbacks.Callback.{Callback}
+use Rattle.pst_eval.specs.declared.callbacks.Callback.TheVariants.{Init, Command, Pre, Next, Post}
 
 abbrev pub callback_name : Callback → List ℕ
 callback_name Init = codes "init"

@@ -1,12 +1,20 @@
-//! The callbacks of a model, whoever evaluates them.
-ghost use Rattle.std.specs.Prelude.{◌≡◌, true, [], List, IfOk, IfSome};
-ghost use Rattle.pst_eval.specs.Callbacks.{Says, Given, GivenState, PreFits, NextFits, PostFits, init_of, command_of, pre_of, next_of, post_of};
+//! The callbacks of a model, their plain evaluation, and the places of their faults.
+ghost use Rattle.std.specs.Prelude.{◌≡◌, true, [], List, IfOk, IfSome, ◌≢◌};
+ghost use Rattle.pst_eval.specs.Callbacks.{Says, Given, GivenState, PreFits, NextFits, PostFits, init_of, command_of, pre_of, next_of, post_of, at_names};
 ghost use Rattle.pst_model.specs.Fitting.{is_state};
 ghost use Rattle.pst_model.specs.declared.model.Source.{Source};
 ghost use Rattle.pst_value.specs.declared.ty.Ty.{Ty};
 ghost use Rattle.pst_value.specs.declared.ty.Ty.TheVariants as ty;
+ghost use Rattle.pst_eval.specs.Env.{env_of};
+ghost use Rattle.pst_operators.specs.Outcome.{Stuck};
+ghost use Rattle.pst_eval.specs.Places.{callback_name};
 
-use pst_model::Typed;
+use crate::context::{Context, Env};
+use crate::evaluation::eval;
+use pst_model::{
+    Expr, Source, Typed, find_command_expression, find_initial_state_expression, operation_of,
+};
+use pst_operators::Stop;
 use pst_value::{Fault, Value};
 use std::alloc::{AllocError, Global};
 
@@ -65,4 +73,155 @@ pub trait Callbacks {
         requires { (vars : List Ty) × PostFits (model self.now) op state.now arguments.now r.now vars }
         ensures says { IfOk result (λ a. Says (post_of (model self.now) op state.now arguments.now r.now) a) }
         ensures fits { IfOk result (λ a. Given (model self.now) [] [] ty.Bool a) };
+}
+
+/// The turns that a callback starts with.
+const MAX_TURNS: u32 = 1_000_000;
+
+/// The callbacks of a well-typed model, evaluated by recursion on its expressions.
+#[derive(Drop)]
+pub struct Plain<'a> {
+    typed: &'a Typed,
+}
+
+/// Evaluates an expression of the model.
+#[tactic(auto, unfolding(crate::specs::Callbacks::at_names))]
+fn eval_with_max_turns(model: &Source, expr: &Expr, alloc: Global, env: &Env<'_>) -> Answer
+    requires { at_names model.now expr.now (env_of env.now) ≢ Stuck }
+    ensures { IfOk result (λ a. Says (at_names model.now expr.now (env_of env.now)) a) }
+{
+    let context = Context {
+        alloc,
+        items: model.items.as_slice(),
+        earlier: model.items.as_slice(),
+    };
+    let mut turns = MAX_TURNS;
+    match eval(expr, &context, env, &mut turns) {
+        Ok(value) => Ok(Ok((value, turns))),
+        Err(Stop::Fault(fault)) => Ok(Err(fault)),
+        Err(Stop::Stuck) => unreachable!(),
+        Err(Stop::NoMemory) => Err(AllocError),
+    }
+}
+
+impl<'a> Plain<'a> {
+    /// The callbacks of the model.
+    pub fn new(typed: &'a Typed) -> Plain<'a>
+        ensures { result.typed.now ≡ typed.now }
+    {
+        Plain { typed }
+    }
+}
+
+impl<'a> Callbacks for Plain<'a> {
+    ghost model = { λ p. p.typed.now };
+
+    fn well_typed(&self) -> Option<&Typed> {
+        Some(self.typed)
+    }
+
+    fn init(&self, alloc: Global) -> Answer {
+        let model = self.typed.source();
+        let Some(opening) = find_initial_state_expression(model.items.as_slice()) else {
+            unreachable!()
+        };
+        eval_with_max_turns(model, opening, alloc, &Env::Frame(&[], &[]))
+    }
+
+    fn command(&self, alloc: Global, state: &Value) -> Answer {
+        let model = self.typed.source();
+        let Some(calls) = find_command_expression(model.items.as_slice()) else {
+            unreachable!()
+        };
+        let frame = Env::Frame(&[], &[]);
+        let env = Env::With(b"s", &*state, &frame);
+        eval_with_max_turns(model, calls, alloc, &env)
+    }
+
+    fn pre(&self, alloc: Global, op: u32, state: &Value, arguments: &[Value]) -> Answer {
+        let model = self.typed.source();
+        let Some(operation) = operation_of(model.items.as_slice(), op as usize) else {
+            unreachable!()
+        };
+        let frame = Env::Frame(operation.params.as_slice(), arguments);
+        let env = Env::With(b"s", &*state, &frame);
+        eval_with_max_turns(model, &operation.pre, alloc, &env)
+    }
+
+    fn next(
+        &self,
+        alloc: Global,
+        op: u32,
+        state: &Value,
+        arguments: &[Value],
+        r: &Value,
+    ) -> Answer {
+        let model = self.typed.source();
+        let Some(operation) = operation_of(model.items.as_slice(), op as usize) else {
+            unreachable!()
+        };
+        let frame = Env::Frame(operation.params.as_slice(), arguments);
+        let outer = Env::With(b"s", &*state, &frame);
+        let inner = Env::With(b"r", &*r, &outer);
+        eval_with_max_turns(model, &operation.next, alloc, &inner)
+    }
+
+    fn post(
+        &self,
+        alloc: Global,
+        op: u32,
+        state: &Value,
+        arguments: &[Value],
+        r: &Value,
+    ) -> Answer {
+        let model = self.typed.source();
+        let Some(operation) = operation_of(model.items.as_slice(), op as usize) else {
+            unreachable!()
+        };
+        let frame = Env::Frame(operation.params.as_slice(), arguments);
+        let outer = Env::With(b"s", &*state, &frame);
+        let inner = Env::With(b"r", &*r, &outer);
+        eval_with_max_turns(model, &operation.post, alloc, &inner)
+    }
+}
+
+/// A callback of a model (of `eqc_statem`).
+#[derive(Clone, Copy, Debug, PartialEq, Eq, Drop)]
+pub enum Callback {
+    /// The initial state.
+    Init,
+    /// The calls to pick from.
+    Command,
+    /// The precondition of an operation.
+    Pre,
+    /// The next state.
+    Next,
+    /// The postcondition of an operation.
+    Post,
+}
+
+impl Callback {
+    /// The word that is printed for it.
+    pub fn name(&self) -> &'static str
+        ensures { result.now ≡ callback_name self.now }
+    {
+        match self {
+            Callback::Init => "init",
+            Callback::Command => "command",
+            Callback::Pre => "pre",
+            Callback::Next => "next",
+            Callback::Post => "post",
+        }
+    }
+}
+
+/// The place of a callback's fault.
+#[derive(Clone, Copy, Debug, PartialEq, Eq, Drop)]
+pub struct FaultPlace {
+    /// The number of the command, from 1, or 0 for the initial state.
+    pub command: u32,
+    /// The callback that faults.
+    pub callback: Callback,
+    /// The kind of its fault.
+    pub fault: Fault,
 }

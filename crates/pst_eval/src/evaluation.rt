@@ -5,9 +5,9 @@ ghost use Rattle.pst_eval.specs.Env.{env_of, mean_in, parts_in, functions_in};
 ghost use Rattle.pst_model.specs.declared.expr.Expr as form;
 ghost use Rattle.pst_operators.specs.Answers.{Meets};
 
-use crate::building::{empty_map, operation_call_as_value};
-use crate::context::{Context, split_first, split_last};
-use crate::env::{Env, look_up};
+use crate::context::{
+    Context, Env, empty_map, look_up, operation_call_as_value, split_first, split_last,
+};
 use pst_model::{Binary, Clause, Expr, Item};
 use pst_operators::{
     Stop, append, apply_binary_operator_to_owned, apply_unary_operator, item, items_of, put,

@@ -3,22 +3,15 @@
 //! of an expression can reach, by the form of the expression.
 #![tactic(auto)]
 
-mod building;
 mod callbacks;
 mod context;
-mod env;
 mod evaluation;
-mod place;
-mod plain;
 mod reach;
 mod symbolic;
 
-pub use callbacks::Callbacks;
-pub use context::Context;
-pub use env::Env;
+pub use callbacks::{Callback, Callbacks, FaultPlace, Plain};
+pub use context::{Context, Env};
 pub use evaluation::eval;
-pub use place::{Callback, FaultPlace};
-pub use plain::Plain;
 pub use reach::{NamesWithReach, greater, reach_of_expression, reach_of_value};
 pub use symbolic::{
     real_command_equals_symbolic_command, real_init_equals_symbolic_init,

@@ -1,11 +1,11 @@
-//! Writes a search in the language of Graphviz.
+//! Writes a search in the language of Graphviz, with its names and labels.
 
-use crate::labels::{
-    add_graphviz_label_cut_if_long, add_graphviz_node_name, add_graphviz_quoted_text,
-};
 use crate::position::GraphPosition;
 use crate::search::{GraphMove, GraphMoveTarget, SearchGraph};
-use pst_scene::{Scene, add_str, copy_explanation_text, dead_end_text, value_text};
+use pst_scene::{
+    Scene, add_number, add_str, copy_explanation_text, cut_in_middle_if_too_long, dead_end_text,
+    value_text,
+};
 use std::alloc::{AllocError, Global};
 
 /// The style of all nodes and edges.
@@ -223,4 +223,50 @@ pub fn search_graph_as_graphviz_text(
     add_graphviz_moves_and_dead_ends(&mut out, alloc, scene, search)?;
     add_str(&mut out, "}\n")?;
     Ok(out)
+}
+
+/// The most bytes of a label.
+const MOST_BYTES: usize = 60;
+
+/// Adds a name of a letter and a number.
+fn add_graphviz_node_name(
+    out: &mut Vec<u8>,
+    letter: &str,
+    number: usize,
+) -> Result<(), AllocError> {
+    add_str(out, letter)?;
+    add_number(out, number)
+}
+
+/// Adds a byte of a text in quotes, escaped so that Graphviz shows it.
+fn add_graphviz_escaped_byte(out: &mut Vec<u8>, byte: u8) -> Result<(), AllocError> {
+    match byte {
+        b'"' => add_str(out, "\\\""),
+        b'\\' => add_str(out, "\\\\"),
+        b'&' => add_str(out, "&amp;"),
+        other => {
+            out.push(other)?;
+            Ok(())
+        }
+    }
+}
+
+/// Adds a text in quotes, escaped so that Graphviz shows each byte.
+fn add_graphviz_quoted_text(out: &mut Vec<u8>, text: &[u8]) -> Result<(), AllocError> {
+    add_str(out, "\"")?;
+    for byte in text {
+        add_graphviz_escaped_byte(out, *byte)?;
+    }
+    add_str(out, "\"")
+}
+
+/// Adds a label, cut in the middle if it is long.
+fn add_graphviz_label_cut_if_long(
+    out: &mut Vec<u8>,
+    alloc: Global,
+    text: &[u8],
+) -> Result<(), AllocError> {
+    let text = cut_in_middle_if_too_long(alloc, text, MOST_BYTES)?;
+    add_str(out, "label=")?;
+    add_graphviz_quoted_text(out, text.as_slice())
 }

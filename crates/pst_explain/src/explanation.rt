@@ -4,7 +4,7 @@ ghost use Rattle.pst_case.specs.Matches.{matches};
 ghost use Rattle.pst_case.specs.Recorded.{recorded};
 ghost use Rattle.pst_judge.specs.Judgement.{HistoryMatches, IsJudgement};
 ghost use Rattle.pst_judge.specs.Verdict.{IsVerdict, first_broken};
-ghost use Rattle.pst_judge.specs.declared.verdicts.Verdict.TheVariants as verdict;
+ghost use Rattle.pst_judge.specs.declared.judgement.Verdict.TheVariants as verdict;
 ghost use Rattle.pst_reasons.specs.Reasons.{IsUnexplained};
 
 use crate::bounded::StepLimitedCallbacks;

@@ -1,17 +1,20 @@
-//! The graph of an item.
-ghost use Rattle.std.specs.Prelude.{◌≡◌};
+//! The graph of an item, and the interleaving that it shows.
+ghost use Rattle.std.specs.Prelude.{◌≡◌, true};
 ghost use Rattle.pst_judge.specs.Judgement.{HistoryMatches, IsJudgement};
+ghost use Rattle.pst_case.specs.Matches.{matches};
 
 use crate::bounded::StepLimitedCallbacks;
 use crate::drawing::search_graph_as_graphviz_text;
 use crate::explanation::MOST_STEPS;
-use crate::path::calls_of_displayed_interleaving;
 use crate::search::{build_interleaving_graph_with_dead_ends, build_search_graph_up_to_limit};
-use pst_case::Run;
+use pst_case::{History, Run};
 use pst_eval::Callbacks;
-use pst_judge::{Judged, Verdict};
+use pst_judge::{Judged, Verdict, Why, verdict_with_interleaving};
 use pst_model::Typed;
-use pst_scene::scene_of_run;
+use pst_scene::{
+    Call, CasePart, Scene, call_numbered, calls_before_call_in_interleaving,
+    calls_in_interleaving_order, first_calls, scene_of_run,
+};
 use std::alloc::{AllocError, Global};
 
 /// The addition to the title if the graph shows only the interleaving of the verdict.
@@ -74,4 +77,104 @@ pub fn graphviz_text_of_item_search<C: Callbacks>(
     let rest = graph_title_note_or_empty(shows_only_path, is_path_known);
     let title = format!(in alloc; "{number} {verdict}{rest}")?;
     search_graph_as_graphviz_text(alloc, &scene, &search, title.as_str())
+}
+
+/// The commands before command `number` in an interleaving that begins with `interleaving`.
+fn calls_before_numbered_call<'a>(
+    alloc: Global,
+    scene: &Scene<'a>,
+    interleaving: &[usize],
+    number: u32,
+) -> Result<Vec<Call<'a>>, AllocError> {
+    match call_numbered(scene.all.as_slice(), number) {
+        Some(call) => calls_before_call_in_interleaving(alloc, scene, interleaving, &call),
+        None => Ok(Vec::new(alloc)),
+    }
+}
+
+/// The commands before command `number`, which faults after `interleaving`.
+fn calls_before_fault<'a>(
+    alloc: Global,
+    scene: &Scene<'a>,
+    interleaving: &[usize],
+    number: u32,
+) -> Result<Vec<Call<'a>>, AllocError> {
+    let mut whole = Vec::from_slice(alloc, interleaving)?;
+    if let Some(call) = call_numbered(scene.all.as_slice(), number) {
+        if let CasePart::Branch(branch) = call.part {
+            whole.push(branch)?;
+        }
+    }
+    calls_before_numbered_call(alloc, scene, whole.as_slice(), number)
+}
+
+/// The commands of a verdict's interleaving: of the one that explains or, as far as their postconditions are true, of
+/// the first that faults or of the one that gets furthest.
+fn calls_in_verdict_interleaving_until_failure<'a, C: Callbacks>(
+    callbacks: &C,
+    alloc: Global,
+    scene: &Scene<'a>,
+    history: &History,
+    verdict: &Verdict,
+) -> Result<Vec<Call<'a>>, AllocError>
+    requires shaped { scene.now.run.now.shaped.model ≡ C.model callbacks.now }
+    requires matches { matches (C.model callbacks.now) scene.now.run.now.shaped.case history.now ≡ true }
+{
+    let shaped = &scene.run.shaped;
+    match verdict {
+        Verdict::Explained(interleaving) => calls_in_interleaving_order(
+            alloc,
+            &scene.calls,
+            interleaving.as_slice(),
+        ),
+        Verdict::Faulted(place) => {
+            let (_, interleaving) = verdict_with_interleaving(callbacks, alloc, shaped, history)?;
+            calls_before_fault(alloc, scene, interleaving.as_slice(), place.command)
+        }
+        Verdict::Unexplained(far) => {
+            let (_, interleaving) = verdict_with_interleaving(callbacks, alloc, shaped, history)?;
+            let order = calls_in_interleaving_order(alloc, &scene.calls, interleaving.as_slice())?;
+            first_calls(alloc, order.as_slice(), *far)
+        }
+        Verdict::Broken(_) => Ok(Vec::new(alloc)),
+    }
+}
+
+/// The commands of the interleaving in which a case is not valid, up to the failure.
+fn calls_before_case_failure<'a>(
+    alloc: Global,
+    scene: &Scene<'a>,
+    why: &Why,
+) -> Result<Vec<Call<'a>>, AllocError> {
+    match why {
+        Why::PreFalse { command, merge } => {
+            calls_before_numbered_call(alloc, scene, merge.as_slice(), *command)
+        }
+        Why::CallbackFault { place, merge } => {
+            calls_before_numbered_call(alloc, scene, merge.as_slice(), place.command)
+        }
+        Why::NoMemory => Ok(Vec::new(alloc)),
+    }
+}
+
+/// The commands of the interleaving that a graph shows; none if the item is valid or has a reply that is no value.
+fn calls_of_displayed_interleaving<'a, C: Callbacks>(
+    callbacks: &C,
+    alloc: Global,
+    scene: &Scene<'a>,
+    judged: &Judged,
+) -> Result<Vec<Call<'a>>, AllocError>
+    requires shaped { scene.now.run.now.shaped.model ≡ C.model callbacks.now }
+    requires matches { HistoryMatches (C.model callbacks.now) scene.now.run.now }
+{
+    match judged {
+        Judged::Verdict(verdict) => match &scene.run.history {
+            Some(history) => calls_in_verdict_interleaving_until_failure(
+                callbacks, alloc, scene, history, verdict,
+            ),
+            None => Ok(Vec::new(alloc)),
+        },
+        Judged::Valid => Ok(Vec::new(alloc)),
+        Judged::Invalid(why) => calls_before_case_failure(alloc, scene, why),
+    }
 }

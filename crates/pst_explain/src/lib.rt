@@ -19,13 +19,9 @@ mod explanation;
 mod failure_text;
 mod failures;
 mod graph;
-mod labels;
-mod lines;
 mod parts;
-mod path;
 mod places;
 mod position;
-mod scripts;
 mod search;
 mod text;
 mod walk_text;
@@ -36,13 +32,13 @@ pub use bounded::StepLimitedCallbacks;
 pub use breaking::{CallWithBrokenReply, broken_reply_sentence_of_run};
 pub use cores::{Core, CoreAnswer};
 pub use explanation::{Explanation, JudgementReason, explain_item};
+pub use failure_text::explain_fault_in_generation;
 pub use failures::{
     ExpressionWithFaultyPart, ExpressionWithNameValues, Failure, FaultyPartWithValues,
 };
 pub use graph::graphviz_text_of_item_search;
 pub use places::{TreePlace, tree_places_in_input};
 pub use position::GraphPosition;
-pub use scripts::explain_fault_in_generation;
 pub use search::{GraphMove, GraphMoveTarget, SearchGraph, build_search_graph_if_small};
 pub use text::{
     append_colored_explanation_text, append_explanation_text, explanation_text_without_heading,

@@ -6,7 +6,7 @@ use Rattle.pst_case.specs.declared.case.Command.{Command}
 use Rattle.pst_gen.specs.Accepted.{IsAccepted}
 use Rattle.pst_gen.specs.Script.{IsScript}
 use Rattle.pst_gen.specs.Split.{split_case, most, before_suffix_of, suffix_of}
-use Rattle.pst_eval.specs.declared.place.FaultPlace.{FaultPlace}
+use Rattle.pst_eval.specs.declared.callbacks.FaultPlace.{FaultPlace}
 use Rattle.pst_model.specs.declared.model.Source.{Source}
 
 -- more commands in parallel, but not too many, give no accepted case

@@ -1,17 +1,17 @@
-//! Cases from random words.
+//! Valid cases from random words, and whether a given case is accepted as valid.
 ghost use Rattle.std.specs.Prelude.{◌≡◌, ◌≤◌, ◌+◌, ◌++◌, ℕ, List, length, IfOk};
 ghost use Rattle.pst_gen.specs.Done.{IsDone};
 ghost use Rattle.pst_gen.specs.Draws.{Draws};
 ghost use Rattle.pst_gen.specs.Generated.{IsSplit, NoneAbove, IsGenerated, case_in};
 ghost use Rattle.pst_gen.specs.Split.{most};
 ghost use Rattle.pst_value.specs.declared.value.Value.{Value as AnyValue};
+ghost use Rattle.pst_gen.specs.Accepted.{IsIfAccepted};
 
-use crate::accepted::valid_case_if_accepted;
 use crate::script::script;
 use crate::split::split_case;
-use pst_case::Command;
+use pst_case::{Case, CaseFaultKind, Command, shape};
 use pst_eval::{Callbacks, FaultPlace};
-use pst_judge::Valid;
+use pst_judge::{Valid, Why, valid};
 use pst_model::Typed;
 use rand_core::Rng;
 use std::alloc::{AllocError, Global};
@@ -110,4 +110,30 @@ pub fn generate<C: Callbacks, R: Rng>(
         callbacks, alloc, typed, branches, word, before, behind, parallel,
     )?;
     Ok(Ok(valid))
+}
+
+/// Returns the case, if it has the shape of the model and is valid by it.
+pub fn valid_case_if_accepted<C: Callbacks>(
+    callbacks: &C,
+    alloc: Global,
+    typed: &Typed,
+    case: Case,
+) -> Result<Option<Valid>, AllocError>
+    requires { C.model callbacks.now ≡ typed.now }
+    ensures { IfOk result (IsIfAccepted typed.now case) }
+{
+    let shaped = match shape(alloc, typed, case) {
+        Ok(shaped) => shaped,
+        Err((_, fault)) => {
+            return match fault.kind {
+                CaseFaultKind::NoMemory => Err(AllocError),
+                _ => Ok(None),
+            };
+        }
+    };
+    match valid(callbacks, alloc, shaped) {
+        Ok(valid) => Ok(Some(valid)),
+        Err((_, Why::NoMemory)) => Err(AllocError),
+        Err(_) => Ok(None),
+    }
 }

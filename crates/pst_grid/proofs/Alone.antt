@@ -2,10 +2,10 @@
 use Rattle.std.proofs.Common.{◌≡◌, ℕ, List, [], ◌∷◌, get_or, refl, ap, ◌∙◌}
 use Rattle.pst_grid.specs.Laws.{run_alone, EventsAreTrue, RunsAlone, IsTrueByEvents}
 use Rattle.pst_grid.specs.Merges.{run, after, later, one_more, nothing_follows}
-use Rattle.pst_grid.specs.declared.answer.Ending.{Ending}
-use Rattle.pst_grid.specs.declared.answer.Ending.TheVariants.{AllTrue}
-use Rattle.pst_grid.specs.declared.answer.StepOutcome.{StepOutcome}
-use Rattle.pst_grid.specs.declared.answer.StepOutcome.TheVariants.{Next, Stop}
+use Rattle.pst_grid.specs.declared.steps.Ending.{Ending}
+use Rattle.pst_grid.specs.declared.steps.Ending.TheVariants.{AllTrue}
+use Rattle.pst_grid.specs.declared.steps.StepOutcome.{StepOutcome}
+use Rattle.pst_grid.specs.declared.steps.StepOutcome.TheVariants.{Next, Stop}
 use Rattle.pst_grid.proofs.Covering.{later-AllTrue}
 
 module _ {S F : Type 0} where

@@ -3,18 +3,18 @@ use Rattle.std.proofs.Common.{◌≡◌, ℕ, zero, suc, inl, inr, List, [], ◌
 use Rattle.std.proofs.lemmas.List.{length-replicate}
 use Rattle.std.specs.declared.vec.Vec.{Vec}
 use Rattle.std.specs.declared.alloc.Global.{Global}
-use Rattle.pst_grid.specs.declared.answer.StopReason.{StopReason}
-use Rattle.pst_grid.specs.declared.answer.StopReason.TheVariants.{False, Fault}
-use Rattle.pst_grid.specs.declared.answer.StepOutcome.{StepOutcome}
-use Rattle.pst_grid.specs.declared.answer.SomeAnswer.{SomeAnswer}
-use Rattle.pst_grid.specs.declared.answer.SomeAnswer.TheVariants.{Found, Faulted, Nothing}
+use Rattle.pst_grid.specs.declared.steps.StopReason.{StopReason}
+use Rattle.pst_grid.specs.declared.steps.StopReason.TheVariants.{False, Fault}
+use Rattle.pst_grid.specs.declared.steps.StepOutcome.{StepOutcome}
+use Rattle.pst_grid.specs.declared.steps.SomeAnswer.{SomeAnswer}
+use Rattle.pst_grid.specs.declared.steps.SomeAnswer.TheVariants.{Found, Faulted, Nothing}
 use Rattle.pst_grid.specs.Answers.{IsEveryAnswer, FailsToBeTrue, IsAnswer, ending, Ends, Faults}
 use Rattle.pst_grid.specs.Completions.{Completes, fill_from, IsAt}
 use Rattle.pst_grid.specs.Covered.{IsFurther, IsLeastFalse, Covered, IsHeld, IsLeastSought, IsExplored, IsExploredWhole}
 use Rattle.pst_grid.specs.Kept.{HasEnd, Keeps, nothing_kept, IsSought, reach}
 use Rattle.pst_grid.specs.Merges.{IsUpTo, IsMerge, none_done}
-use Rattle.pst_grid.specs.declared.answer.Ending.{Ending}
-use Rattle.pst_grid.specs.declared.answer.Ending.TheVariants.{AllTrue, StopsAt}
+use Rattle.pst_grid.specs.declared.steps.Ending.{Ending}
+use Rattle.pst_grid.specs.declared.steps.Ending.TheVariants.{AllTrue, StopsAt}
 use Rattle.pst_grid.specs.Remembered.{IsFoundOrCovered}
 use Rattle.pst_grid.specs.declared.position.Position.{Position}
 use Rattle.pst_grid.specs.declared.search.FirstFailures.{FirstFailures}
@@ -23,8 +23,8 @@ use Rattle.pst_grid.specs.declared.search.FaultedInterleaving.{FaultedInterleavi
 use Rattle.pst_grid.specs.declared.search.Goal.{Goal}
 use Rattle.pst_grid.specs.declared.search.Goal.TheVariants.{ToEnd, Stopped}
 use Rattle.pst_grid.specs.declared.search.SearchProgress.{SearchProgress}
-use Rattle.pst_grid.specs.declared.answer.EveryAnswer.{EveryAnswer}
-use Rattle.pst_grid.specs.declared.answer.EveryAnswer.TheVariants.{All, Not}
+use Rattle.pst_grid.specs.declared.steps.EveryAnswer.{EveryAnswer}
+use Rattle.pst_grid.specs.declared.steps.EveryAnswer.TheVariants.{All, Not}
 use Rattle.pst_grid.proofs.Covering.{still-fresh}
 use Rattle.pst_grid.proofs.Filling.{Completes-fill}
 

@@ -7,8 +7,8 @@ use Rattle.pst_grid.specs.Bounds.{Each, HasNoRepeats, Leads, IsReached, IsBounde
 use Rattle.pst_grid.specs.Completions.{IsAt}
 use Rattle.pst_grid.specs.Laws.{product, NeverChanges, MakesFewSteps}
 use Rattle.pst_grid.specs.Merges.{one_more, none_done}
-use Rattle.pst_grid.specs.declared.answer.StepOutcome.{StepOutcome}
-use Rattle.pst_grid.specs.declared.answer.StepOutcome.TheVariants.{Next}
+use Rattle.pst_grid.specs.declared.steps.StepOutcome.{StepOutcome}
+use Rattle.pst_grid.specs.declared.steps.StepOutcome.TheVariants.{Next}
 use Rattle.pst_grid.proofs.Answering.{IsAt-none}
 use Rattle.pst_grid.proofs.Remembering.{Each-map}
 use Rattle.pst_grid.proofs.Searching.{IsAt-more}

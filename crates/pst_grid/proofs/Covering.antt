@@ -3,16 +3,16 @@ use Rattle.std.proofs.Common.{◌≡◌, ℕ, suc, ◌+◌, ◌<◌, ◌≤◌, 
 use Rattle.std.proofs.lemmas.Bool.{cases_lt}
 use Rattle.std.proofs.lemmas.Bool.Decides.{nat_tests}
 use Rattle.std.specs.Option.{is_none}
-use Rattle.pst_grid.specs.declared.answer.StopReason.{StopReason}
-use Rattle.pst_grid.specs.declared.answer.StopReason.TheVariants.{False, Fault}
-use Rattle.pst_grid.specs.declared.answer.StepOutcome.{StepOutcome}
-use Rattle.pst_grid.specs.declared.answer.StepOutcome.TheVariants.{Next, Stop}
+use Rattle.pst_grid.specs.declared.steps.StopReason.{StopReason}
+use Rattle.pst_grid.specs.declared.steps.StopReason.TheVariants.{False, Fault}
+use Rattle.pst_grid.specs.declared.steps.StepOutcome.{StepOutcome}
+use Rattle.pst_grid.specs.declared.steps.StepOutcome.TheVariants.{Next, Stop}
 use Rattle.pst_grid.specs.Completions.{Completes, Begins}
 use Rattle.pst_grid.specs.Covered.{FaultsOn, IsLeastFault, IsFurther, Covered, IsHeld, IsExplored}
 use Rattle.pst_grid.specs.Kept.{reach, Keeps, KeepsFurthest, KeepsFault, is_stopped, IsFresh, IsSought, is_kept}
 use Rattle.pst_grid.specs.Merges.{run, IsUpTo, after, later, one_more}
-use Rattle.pst_grid.specs.declared.answer.Ending.{Ending}
-use Rattle.pst_grid.specs.declared.answer.Ending.TheVariants.{AllTrue, StopsAt}
+use Rattle.pst_grid.specs.declared.steps.Ending.{Ending}
+use Rattle.pst_grid.specs.declared.steps.Ending.TheVariants.{AllTrue, StopsAt}
 use Rattle.pst_grid.specs.declared.search.FirstFailures.{FirstFailures}
 use Rattle.pst_grid.specs.declared.search.FalseInterleaving.{FalseInterleaving}
 use Rattle.pst_grid.specs.declared.search.FaultedInterleaving.{FaultedInterleaving}

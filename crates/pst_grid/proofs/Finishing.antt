@@ -2,11 +2,11 @@
 use Rattle.std.proofs.Common.{◌≡◌, ℕ, suc, ◌+◌, ◌≤◌, inl, List, [], ◌∷◌, ◌++◌, length, get_or, sum, Bool, true, false, not, Some, None, refl, sym, ap, subst, ◌∙◌, arith}
 use Rattle.std.proofs.lemmas.List.{append-nil}
 use Rattle.std.specs.Prelude.{Result, Ok, Err, IfOk, OnOk}
-use Rattle.pst_grid.specs.declared.answer.StopReason.{StopReason}
-use Rattle.pst_grid.specs.declared.answer.StopReason.TheVariants.{False, Fault}
-use Rattle.pst_grid.specs.declared.answer.Ending.{Ending}
-use Rattle.pst_grid.specs.declared.answer.Ending.TheVariants.{AllTrue, StopsAt}
-use Rattle.pst_grid.specs.declared.answer.StepOutcome.{StepOutcome}
+use Rattle.pst_grid.specs.declared.steps.StopReason.{StopReason}
+use Rattle.pst_grid.specs.declared.steps.StopReason.TheVariants.{False, Fault}
+use Rattle.pst_grid.specs.declared.steps.Ending.{Ending}
+use Rattle.pst_grid.specs.declared.steps.Ending.TheVariants.{AllTrue, StopsAt}
+use Rattle.pst_grid.specs.declared.steps.StepOutcome.{StepOutcome}
 use Rattle.pst_grid.specs.Bounds.{Each}
 use Rattle.pst_grid.specs.Completions.{Completes, IsAt, fill_from}
 use Rattle.pst_grid.specs.Covered.{Covered, IsHeld, IsExplored}

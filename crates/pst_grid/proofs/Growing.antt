@@ -8,8 +8,8 @@ use Rattle.pst_grid.specs.Bounds.{HasNoRepeats, IsBounded, IsReached, Each}
 use Rattle.pst_grid.specs.Merges.{one_more, none_done}
 use Rattle.pst_grid.specs.Remembered.{IsReachedFrom, IsGrown, ends_of}
 use Rattle.pst_grid.specs.declared.position.Position.{Position}
-use Rattle.pst_grid.specs.declared.answer.StepOutcome.{StepOutcome}
-use Rattle.pst_grid.specs.declared.answer.StepOutcome.TheVariants.{Next}
+use Rattle.pst_grid.specs.declared.steps.StepOutcome.{StepOutcome}
+use Rattle.pst_grid.specs.declared.steps.StepOutcome.TheVariants.{Next}
 use Rattle.pst_grid.proofs.Remembering.{Each-map, Each-append}
 
 append-nil : {K : Type 0} (xs : List K) → xs ++ [] ≡ xs

@@ -9,7 +9,7 @@ use Rattle.std.proofs.lemmas.Slice.Eq.{bytes_eq-Decides}
 use Rattle.std.specs.Str.{bytes_eq}
 use Rattle.pst_grid.specs.DoneCounts.{are_small, fits, word_of, word_for, counts_in}
 use Rattle.pst_grid.specs.Packings.{counts_of, IsPacked}
-use Rattle.pst_grid.specs.declared.done_counts.Packing.TheVariants.{Word}
+use Rattle.pst_grid.specs.declared.position.Packing.TheVariants.{Word}
 use Rattle.pst_grid.proofs.Remembering.{and-true}
 
 not-zero : (n : ℕ) → 0 < n → (n == 0) ≡ false

@@ -3,8 +3,8 @@ use Rattle.std.proofs.Common.{◌≡◌, ℕ, ◌+◌, ◌≤◌, inl, inr, List
 use Rattle.std.proofs.lemmas.Slice.Eq.{bytes_eq-Decides}
 use Rattle.std.specs.Str.{bytes_eq}
 use Rattle.std.specs.List.{list_any}
-use Rattle.pst_grid.specs.declared.answer.Ending.{Ending}
-use Rattle.pst_grid.specs.declared.answer.StepOutcome.{StepOutcome}
+use Rattle.pst_grid.specs.declared.steps.Ending.{Ending}
+use Rattle.pst_grid.specs.declared.steps.StepOutcome.{StepOutcome}
 use Rattle.pst_grid.specs.Bounds.{Each}
 use Rattle.pst_grid.specs.Completions.{Completes}
 use Rattle.pst_grid.specs.Covered.{Covered}

@@ -1,14 +1,14 @@
 -- What `some` and `every` answer, over all merges.
 use Rattle.std.specs.Prelude.{◌≡◌, ◌≢◌, ℕ, ◌≤◌, List}
 use Rattle.pst_grid.specs.Merges.{IsMerge, IsLeast, run, none_done}
-use Rattle.pst_grid.specs.declared.answer.Ending.{Ending}
-use Rattle.pst_grid.specs.declared.answer.Ending.TheVariants.{AllTrue, StopsAt}
-use Rattle.pst_grid.specs.declared.answer.StopReason.TheVariants.{False, Fault}
-use Rattle.pst_grid.specs.declared.answer.StepOutcome.{StepOutcome}
-use Rattle.pst_grid.specs.declared.answer.SomeAnswer.{SomeAnswer}
-use Rattle.pst_grid.specs.declared.answer.SomeAnswer.TheVariants.{Found, Faulted, Nothing}
-use Rattle.pst_grid.specs.declared.answer.EveryAnswer.{EveryAnswer}
-use Rattle.pst_grid.specs.declared.answer.EveryAnswer.TheVariants.{All, Not}
+use Rattle.pst_grid.specs.declared.steps.Ending.{Ending}
+use Rattle.pst_grid.specs.declared.steps.Ending.TheVariants.{AllTrue, StopsAt}
+use Rattle.pst_grid.specs.declared.steps.StopReason.TheVariants.{False, Fault}
+use Rattle.pst_grid.specs.declared.steps.StepOutcome.{StepOutcome}
+use Rattle.pst_grid.specs.declared.steps.SomeAnswer.{SomeAnswer}
+use Rattle.pst_grid.specs.declared.steps.SomeAnswer.TheVariants.{Found, Faulted, Nothing}
+use Rattle.pst_grid.specs.declared.steps.EveryAnswer.{EveryAnswer}
+use Rattle.pst_grid.specs.declared.steps.EveryAnswer.TheVariants.{All, Not}
 
 module _ {S F : Type 0} (turn : S → ℕ → ℕ → StepOutcome S F) (rest : S → Ending F)
     (lengths : List ℕ) (start : S) where

@@ -1,8 +1,8 @@
 -- How many steps a search makes at most.
 use Rattle.std.specs.Prelude.{◌≡◌, ◌≢◌, ℕ, ◌<◌, ◌≤◌, ◌+◌, ◌*◌, List, [], ◌∷◌, length, slice_index}
 use Rattle.pst_grid.specs.Merges.{one_more, none_done}
-use Rattle.pst_grid.specs.declared.answer.StepOutcome.{StepOutcome}
-use Rattle.pst_grid.specs.declared.answer.StepOutcome.TheVariants.{Next}
+use Rattle.pst_grid.specs.declared.steps.StepOutcome.{StepOutcome}
+use Rattle.pst_grid.specs.declared.steps.StepOutcome.TheVariants.{Next}
 
 -- a fact of each of a list
 abbrev pub Each : {K : Type 0} → (K → Type 0) → List K → Type 0

@@ -1,7 +1,7 @@
 -- What a search knows of the words that it has covered.
 use Rattle.std.specs.Prelude.{◌≡◌, ℕ, ◌+◌, ◌<◌, ◌≤◌, ◌⊎◌, List, [], ◌++◌, length, Option, Some, None, Bool, MatchBool}
-use Rattle.pst_grid.specs.declared.answer.StopReason.TheVariants.{False, Fault}
-use Rattle.pst_grid.specs.declared.answer.StepOutcome.{StepOutcome}
+use Rattle.pst_grid.specs.declared.steps.StopReason.TheVariants.{False, Fault}
+use Rattle.pst_grid.specs.declared.steps.StepOutcome.{StepOutcome}
 use Rattle.pst_grid.specs.declared.search.FirstFailures.{FirstFailures}
 use Rattle.pst_grid.specs.declared.search.FalseInterleaving.{FalseInterleaving}
 use Rattle.pst_grid.specs.declared.search.FaultedInterleaving.{FaultedInterleaving}
@@ -10,8 +10,8 @@ use Rattle.pst_grid.specs.declared.search.SearchProgress.{SearchProgress}
 use Rattle.pst_grid.specs.Completions.{Completes}
 use Rattle.pst_grid.specs.Kept.{reach, nothing_kept, Keeps, IsSought}
 use Rattle.pst_grid.specs.Merges.{run, none_done, IsUpTo}
-use Rattle.pst_grid.specs.declared.answer.Ending.{Ending}
-use Rattle.pst_grid.specs.declared.answer.Ending.TheVariants.{AllTrue, StopsAt}
+use Rattle.pst_grid.specs.declared.steps.Ending.{Ending}
+use Rattle.pst_grid.specs.declared.steps.Ending.TheVariants.{AllTrue, StopsAt}
 
 -- A search has this word, which has this ending behind so many true events: if it is all true the search stands
 -- there, and if it stops it is all that the search keeps.

@@ -1,10 +1,10 @@
 -- What a search keeps of the merges that stop, and what it is for.
 use Rattle.std.specs.Prelude.{◌≡◌, ℕ, suc, nat_lt, List, Option, Some, None, MatchOption, Bool, true, false, MatchBool}
 use Rattle.std.specs.Option.{is_none}
-use Rattle.pst_grid.specs.declared.answer.Ending.{Ending}
-use Rattle.pst_grid.specs.declared.answer.Ending.TheVariants.{AllTrue, StopsAt}
-use Rattle.pst_grid.specs.declared.answer.StopReason.{StopReason}
-use Rattle.pst_grid.specs.declared.answer.StopReason.TheVariants.{False, Fault}
+use Rattle.pst_grid.specs.declared.steps.Ending.{Ending}
+use Rattle.pst_grid.specs.declared.steps.Ending.TheVariants.{AllTrue, StopsAt}
+use Rattle.pst_grid.specs.declared.steps.StopReason.{StopReason}
+use Rattle.pst_grid.specs.declared.steps.StopReason.TheVariants.{False, Fault}
 use Rattle.pst_grid.specs.declared.search.FirstFailures.{FirstFailures}
 use Rattle.pst_grid.specs.declared.search.FalseInterleaving.{FalseInterleaving}
 use Rattle.pst_grid.specs.declared.search.FaultedInterleaving.{FaultedInterleaving}

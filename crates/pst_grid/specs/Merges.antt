@@ -1,9 +1,9 @@
 -- Words, merges, the order of words, and the run of a word.
 use Rattle.std.specs.Prelude.{◌≡◌, ℕ, ◌+◌, ◌<◌, ◌==◌, ◌⊎◌, List, [], ◌∷◌, length, replicate, slice_index, slice_set, suc, if◌then◌else◌}
-use Rattle.pst_grid.specs.declared.answer.Ending.{Ending}
-use Rattle.pst_grid.specs.declared.answer.Ending.TheVariants.{AllTrue, StopsAt}
-use Rattle.pst_grid.specs.declared.answer.StepOutcome.{StepOutcome}
-use Rattle.pst_grid.specs.declared.answer.StepOutcome.TheVariants.{Next, Stop}
+use Rattle.pst_grid.specs.declared.steps.Ending.{Ending}
+use Rattle.pst_grid.specs.declared.steps.Ending.TheVariants.{AllTrue, StopsAt}
+use Rattle.pst_grid.specs.declared.steps.StepOutcome.{StepOutcome}
+use Rattle.pst_grid.specs.declared.steps.StepOutcome.TheVariants.{Next, Stop}
 
 -- A word is a list of letters, and the letter b stands for the next command of branch b.
 -- how many times a word has the letter b

@@ -1,7 +1,7 @@
 -- How the counts are kept.
 use Rattle.std.specs.Prelude.{◌≡◌, ℕ, true, false, List}
-use Rattle.pst_grid.specs.declared.done_counts.Packing.{Packing}
-use Rattle.pst_grid.specs.declared.done_counts.Packing.TheVariants.{Word, Counts}
+use Rattle.pst_grid.specs.declared.position.Packing.{Packing}
+use Rattle.pst_grid.specs.declared.position.Packing.TheVariants.{Word, Counts}
 use Rattle.pst_grid.specs.DoneCounts.{fits, word_of, counts_in}
 
 -- the counts that a packing keeps

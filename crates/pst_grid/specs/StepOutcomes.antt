@@ -1,9 +1,9 @@
 -- What a step is asked, and what it answers.
 use Rattle.std.specs.Prelude.{ℕ, ◌<◌, List, slice_index}
-use Rattle.pst_grid.specs.declared.answer.Ending.{Ending}
-use Rattle.pst_grid.specs.declared.answer.Ending.TheVariants.{AllTrue, StopsAt}
-use Rattle.pst_grid.specs.declared.answer.StepOutcome.{StepOutcome}
-use Rattle.pst_grid.specs.declared.answer.StepOutcome.TheVariants.{Next, Stop}
+use Rattle.pst_grid.specs.declared.steps.Ending.{Ending}
+use Rattle.pst_grid.specs.declared.steps.Ending.TheVariants.{AllTrue, StopsAt}
+use Rattle.pst_grid.specs.declared.steps.StepOutcome.{StepOutcome}
+use Rattle.pst_grid.specs.declared.steps.StepOutcome.TheVariants.{Next, Stop}
 
 -- a step may be asked for each command of branches of these lengths
 abbrev pub AreCommands : (ℕ → ℕ → Type 0) → List ℕ → Type 0

@@ -1,8 +1,8 @@
 //! Laws of runs and of bounds.
 ghost use Rattle.std.specs.Prelude.{ℕ};
 ghost use Rattle.pst_grid.specs.Laws.{IsTrueByEvents, MakesFewSteps, RunsAlone};
-ghost use Rattle.pst_grid.specs.declared.answer.Ending.{Ending};
-ghost use Rattle.pst_grid.specs.declared.answer.StepOutcome.{StepOutcome};
+ghost use Rattle.pst_grid.specs.declared.steps.Ending.{Ending};
+ghost use Rattle.pst_grid.specs.declared.steps.StepOutcome.{StepOutcome};
 
 /// If nothing follows the branches, the run of a word is its run alone.
 pub fn run_without_rest_is_interleaving_alone<S, F>()

@@ -18,9 +18,6 @@
 //! A caller defines the steps and the rest by an `impl` of [`Steps`]. `AllocError` means that an allocation failed.
 #![tactic(auto)]
 
-mod answer;
-mod done_counts;
-mod finish;
 mod hasher;
 mod laws;
 mod plain_search;
@@ -29,11 +26,10 @@ mod remembering_search;
 mod search;
 mod steps;
 
-pub use answer::{Ending, EveryAnswer, SomeAnswer, StepOutcome, StopReason};
 pub use laws::{
     few_steps_if_state_never_changes, run_is_true_if_all_events_are,
     run_without_rest_is_interleaving_alone,
 };
 pub use plain_search::find_first_true_interleaving_plainly;
 pub use remembering_search::{every, some};
-pub use steps::Steps;
+pub use steps::{Ending, EveryAnswer, SomeAnswer, StepOutcome, Steps, StopReason};

@@ -6,8 +6,7 @@ ghost use Rattle.pst_grid.specs.Covered.{IsExplored};
 ghost use Rattle.pst_grid.specs.StepOutcomes.{AreCommands};
 ghost use Rattle.pst_grid.specs.declared.search.Goal.TheVariants.{ToEnd};
 
-use crate::finish::run_rest_and_check_goal;
-use crate::search::{Goal, SearchProgress, are_all_branches_done};
+use crate::search::{Goal, SearchProgress, are_all_branches_done, run_rest_and_check_goal};
 use crate::{SomeAnswer, StepOutcome, Steps};
 use std::alloc::{AllocError, Global};
 

@@ -8,10 +8,9 @@ ghost use Rattle.pst_grid.specs.Kept.{IsFresh};
 ghost use Rattle.pst_grid.specs.Remembered.{AreAccounted, IsSearched};
 ghost use Rattle.pst_grid.specs.StepOutcomes.{AreCommands};
 
-use crate::finish::run_rest_and_check_goal;
 use crate::hasher::BuildPositionHasher;
 use crate::position::{KeptState, Position, remember_position_if_new};
-use crate::search::{Goal, SearchProgress, are_all_branches_done};
+use crate::search::{Goal, SearchProgress, are_all_branches_done, run_rest_and_check_goal};
 use crate::{EveryAnswer, SomeAnswer, StepOutcome, Steps};
 use indexmap::IndexSet;
 use std::alloc::{AllocError, Global};

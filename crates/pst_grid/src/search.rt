@@ -1,12 +1,14 @@
-//! The position of a search and what it has seen, for each of the searches.
-ghost use Rattle.std.specs.Prelude.{◌≡◌, ◌+◌, ◌-◌, ◌*◌, ◌++◌, ◌∷◌, [], ◌<◌, ◌≤◌, ℕ, length, take, sum, slice_index, slice_set, IfOk, OnOk, MatchBool, MatchOption};
-ghost use Rattle.pst_grid.specs.Completions.{IsAt, fill_from};
+//! What all searches share: the position of a search and what it has seen, and the rest of a run after all branches
+//! have ended.
+ghost use Rattle.std.specs.Prelude.{◌≡◌, ◌+◌, ◌-◌, ◌*◌, ◌++◌, ◌∷◌, [], ◌<◌, ◌≤◌, ℕ, length, take, sum, slice_index, slice_set, IfOk, OnOk, MatchBool, MatchOption, ◌^◌};
+ghost use Rattle.pst_grid.specs.Completions.{IsAt, fill_from, Completes};
 ghost use Rattle.pst_grid.specs.Kept as spec;
-ghost use Rattle.pst_grid.specs.Kept.{HasEnd, Keeps, nothing_kept};
+ghost use Rattle.pst_grid.specs.Kept.{HasEnd, Keeps, nothing_kept, IsFresh};
 ghost use Rattle.pst_grid.specs.Merges.{one_more, none_done};
-ghost use Rattle.pst_grid.specs.declared.answer.StopReason.TheVariants as stop;
+ghost use Rattle.pst_grid.specs.declared.steps.StopReason.TheVariants as stop;
+ghost use Rattle.pst_grid.specs.Covered.{IsExplored};
 
-use crate::{EveryAnswer, SomeAnswer, StopReason};
+use crate::{Ending, EveryAnswer, SomeAnswer, Steps, StopReason};
 use std::alloc::{AllocError, Global};
 
 /// What a search is for. The first interleaving of this kind ends it.
@@ -310,4 +312,35 @@ fn complete_interleaving_branch_by_branch(
         }
     }
     Ok(whole)
+}
+
+/// Runs the rest after the word, which is a whole interleaving, and returns whether the search is for it. If it is not
+/// true to its end, the search notes where it stops. Each clause is a fact on one of the things that the search keeps.
+pub(crate) fn run_rest_and_check_goal<S: Steps>(
+    alloc: Global,
+    steps: &S,
+    lengths: &[usize],
+    goal: Goal,
+    search: &mut SearchProgress<S::Fault>,
+    state: &S::State,
+) -> Result<bool, AllocError>
+    requires place { IsAt lengths.now search.old.done.items }
+    requires ended { (b : ℕ) → slice_index lengths.now b ≤ slice_index search.old.done.items b }
+    requires state { S.is_state steps.now state.now }
+    requires room { length search.old.word.items + S.most_rest steps.now < 2 ^ 64 }
+    requires fresh { IsFresh goal search.old.best }
+    ensures steps { OnOk result (search.new.steps ≤ search.old.steps + S.most_rest steps.now) }
+    ensures explored { IfOk result (IsExplored (S.outcome steps.now) (S.rest steps.now) goal state.now
+        (Completes lengths.now search.old.done.items) search.old search.new) }
+{
+    let (ending, made) = steps.run_rest(alloc, state)?;
+    search.steps = search.steps.saturating_add(made);
+    match ending {
+        Ending::AllTrue => Ok(!goal.wants_stopped_interleaving()),
+        Ending::StopsAt(at, why) => {
+            let at = search.word.len() + at;
+            search.note_stop_if_first_or_furthest(alloc, lengths, at, why)?;
+            Ok(goal.wants_stopped_interleaving())
+        }
+    }
 }

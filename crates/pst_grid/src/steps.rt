@@ -1,12 +1,11 @@
-//! The system that a search steps through.
+//! The system that a search steps through, and the results of its steps and of the search.
 ghost use Rattle.std.specs.Hash.{HashWrites};
 ghost use Rattle.std.specs.Prelude.{◌≡◌, ◌≤◌, ℕ, IfOk, MatchBool, true};
-ghost use Rattle.pst_grid.specs.declared.answer.Ending.{Ending};
-ghost use Rattle.pst_grid.specs.declared.answer.Ending.TheVariants.{AllTrue};
-ghost use Rattle.pst_grid.specs.declared.answer.StepOutcome.{StepOutcome};
+ghost use Rattle.pst_grid.specs.declared.steps.Ending.{Ending};
+ghost use Rattle.pst_grid.specs.declared.steps.Ending.TheVariants.{AllTrue};
+ghost use Rattle.pst_grid.specs.declared.steps.StepOutcome.{StepOutcome};
 ghost use Rattle.pst_grid.specs.StepOutcomes.{OnNext, OnStop};
 
-use crate::{Ending, StepOutcome};
 use std::alloc::{AllocError, Global};
 use std::hash::Hash;
 
@@ -87,4 +86,66 @@ pub trait Steps {
 
     // A kept state feeds a hasher what the state does.
     ghost feeds: { (k : Self.Kept) → Self.Kept.hash_input k ≡ fed (state_of k) };
+}
+
+/// Why a run stops before its end.
+#[derive(Debug, PartialEq, Eq, Drop)]
+pub enum StopReason<F> {
+    /// The event is false.
+    False,
+    /// The event faults.
+    Fault(F),
+}
+
+/// The outcome of a step.
+#[derive(Debug, PartialEq, Eq, Drop)]
+pub enum StepOutcome<S, F> {
+    /// The event is true, and this is the state after it.
+    Next(S),
+    /// The run stops here.
+    Stop(StopReason<F>),
+}
+
+/// How the run of an interleaving, or of the rest after it, ends.
+#[derive(Debug, PartialEq, Eq, Drop)]
+pub enum Ending<F> {
+    /// All events are true.
+    AllTrue,
+    /// The run stops after this many true events.
+    StopsAt(usize, StopReason<F>),
+}
+
+/// The result of a search for an interleaving that is true to its end. A `word` is an interleaving: it has one letter
+/// for each command of all branches, the number of the branch, from 0, whose next command it is.
+#[derive(Debug, PartialEq, Eq, Drop)]
+pub enum SomeAnswer<F> {
+    /// The first interleaving that is true to its end.
+    Found {
+        word: Vec<usize>,
+    },
+    /// No interleaving is true to its end. This is the first that faults, after `at` true events.
+    Faulted {
+        word: Vec<usize>,
+        at: usize,
+        fault: F,
+    },
+    /// No interleaving is true to its end and none faults. `far` is the highest number of true events before a false
+    /// one, including those of the rest, and `word` is the first interleaving with this number.
+    Nothing {
+        far: usize,
+        word: Vec<usize>,
+    },
+}
+
+/// The result of a search for an interleaving that is not true to its end.
+#[derive(Debug, PartialEq, Eq, Drop)]
+pub enum EveryAnswer<F> {
+    /// Each interleaving is true to its end.
+    All,
+    /// The first interleaving that is not true to its end. It stops after `at` true events.
+    Not {
+        word: Vec<usize>,
+        at: usize,
+        why: StopReason<F>,
+    },
 }

@@ -9,7 +9,7 @@ use pst_cli::{
 };
 use pst_samples::Stuck;
 use pst_system::BoxedSystem;
-use pst_tests::short::LimitedSink;
+use pst_tests::support::LimitedSink;
 use std::alloc::{AllocError, Global};
 use std::sync::Wait;
 use std::thread::Threads;

@@ -4,7 +4,7 @@
 use crate::commands::{
     COMMANDS, ProgramCommand, run_command_with_limited_writer, status_and_shortened_output_text,
 };
-use crate::deep::{InputLimit, LIMITS, text_of_input_at_limit};
+use crate::models::{InputLimit, LIMITS, text_of_input_at_limit};
 use pst_messages::input_warnings_text;
 use pst_sexpr::{Out, read, write};
 use pst_sources::SourceFile;

@@ -6,17 +6,15 @@
 //! allocation fails in the call, or its result cannot be printed.
 #![tactic(auto)]
 
-mod beginnings;
 mod commands;
 mod cuts;
-mod deep;
 mod depths;
 mod driven;
+mod failing_writers;
 mod inputs;
 mod memory;
 mod models;
 mod odd;
-mod reports;
 mod values;
 
 use std::env::Env;
@@ -36,8 +34,8 @@ fn print_all_hostile_rows<R: Threads + Wait + Sync + Print + AllocGlobal>(
 ) -> io::Result<()> {
     cuts::print_judge_output_and_unexpected_cuts(rt)?;
     inputs::print_outputs_for_malformed_or_extreme_inputs(rt)?;
-    beginnings::print_failing_writer_results_of_commands(rt)?;
-    reports::print_missed_report_prefix_count(rt)?;
+    failing_writers::print_failing_writer_results_of_commands(rt)?;
+    failing_writers::print_missed_report_prefix_count(rt)?;
     driven::print_results_on_misbehaving_systems(rt)?;
     values::print_correctness_of_nested_values_in_threads(rt)?;
     depths::print_program_results_at_each_limit(rt)?;

@@ -3,10 +3,9 @@
 
 mod judging;
 mod reading;
-mod refused;
 pub mod trials;
 
-use refused::Refused;
+use reading::Refused;
 use std::alloc::Global;
 use std::io;
 use std::sync::Wait;

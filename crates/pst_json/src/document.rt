@@ -2,9 +2,8 @@
 ghost use Rattle.std.specs.Prelude.{IfOk};
 ghost use Rattle.pst_json.specs.Page.{IsPageText};
 
-use crate::ascii::push_known_page_safe_byte;
 use crate::models::write_json_model_member;
-use crate::writing::into_page_safe_ascii_json;
+use crate::writing::{into_page_safe_ascii_json, push_known_page_safe_byte};
 use json::Writer;
 use pst_model::Source;
 use pst_sources::SourceFile;

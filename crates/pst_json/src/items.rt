@@ -3,11 +3,11 @@ ghost use Rattle.std.specs.Prelude.{IfOk};
 ghost use Rattle.pst_json.specs.Page.{IsPageText};
 
 use crate::calls::write_json_calls_member;
-use crate::cores::write_json_core_members;
 use crate::failures::{
     write_json_call_with_broken_reply_member, write_json_false_or_faulty_callback_member,
 };
 use crate::graphs::write_json_search_counts_and_any_graph;
+use crate::reasons::write_json_core_members;
 use crate::walks::write_json_interleaving_states_member;
 use crate::writing::{into_page_safe_ascii_json, write_json_number_member, write_json_text_member};
 use json::Writer;

@@ -10,9 +10,7 @@
 //! `AllocError` means that an allocation failed.
 #![tactic(auto)]
 
-mod ascii;
 mod calls;
-mod cores;
 mod document;
 mod failures;
 mod graphs;

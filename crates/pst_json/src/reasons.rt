@@ -1,10 +1,16 @@
-//! Why a call cannot come next.
+//! Reasons: why a call cannot come next, and the answers that cannot all be right.
 
-use crate::values::write_json_value_member;
+use crate::calls::write_json_call_member_with_id;
+use crate::values::{
+    write_json_state_spelling_member, write_json_value_member, write_json_values_member,
+};
+use crate::walks::write_json_interleaving_member;
 use crate::writing::{
-    write_json_expression_text_member, write_json_spelling_cut_if_long, write_json_spelling_member,
+    write_json_bool_member, write_json_expression_text_member, write_json_spelling_cut_if_long,
+    write_json_spelling_member,
 };
 use json::Writer;
+use pst_explain::{Core, CoreAnswer, WrongAnswer};
 use pst_model::Source;
 use pst_scene::{
     DeadEnd, Evidence, FalsePart, Falsity, dead_end_text, false_postcondition_text, value_text,
@@ -45,7 +51,7 @@ fn write_json_false_part_members(
 }
 
 /// Writes the members on a postcondition that is not true.
-pub fn write_json_false_postcondition_members(
+fn write_json_false_postcondition_members(
     writer: &mut Writer<Global>,
     alloc: Global,
     model: &Source,
@@ -78,4 +84,74 @@ pub fn write_json_dead_end_member(
         }
     }
     writer.end_object()
+}
+
+/// Writes the member `why`: why an answer is wrong in an interleaving, and this interleaving.
+fn write_json_why_answer_is_wrong_member(
+    writer: &mut Writer<Global>,
+    alloc: Global,
+    model: &Source,
+    wrong: &WrongAnswer<'_>,
+) -> Result<(), AllocError> {
+    writer.key("why")?;
+    writer.begin_object()?;
+    write_json_false_postcondition_members(writer, alloc, model, &wrong.falsity)?;
+    if !wrong.interleaving.is_empty() {
+        write_json_interleaving_member(writer, alloc, "by", wrong.interleaving.as_slice())?;
+    }
+    write_json_state_spelling_member(writer, alloc, "state", model, &wrong.state)?;
+    writer.end_object()
+}
+
+/// Writes the member `allowed`: what the model allows in place of an answer.
+fn write_json_allowed_answers_member(
+    writer: &mut Writer<Global>,
+    alloc: Global,
+    model: &Source,
+    answer: &CoreAnswer<'_>,
+) -> Result<(), AllocError> {
+    writer.key("allowed")?;
+    writer.begin_object()?;
+    let values = answer.allowed.values.as_slice();
+    write_json_values_member(writer, alloc, "values", model, values)?;
+    write_json_bool_member(writer, "all", answer.allowed.all)?;
+    write_json_bool_member(writer, "only", answer.is_allowed_list_complete())?;
+    writer.end_object()
+}
+
+/// Writes an answer of a core.
+fn write_json_core_answer(
+    writer: &mut Writer<Global>,
+    alloc: Global,
+    model: &Source,
+    answer: &CoreAnswer<'_>,
+) -> Result<(), AllocError> {
+    writer.begin_object()?;
+    write_json_call_member_with_id(writer, alloc, &answer.call)?;
+    if let Some(wrong) = &answer.wrong {
+        write_json_why_answer_is_wrong_member(writer, alloc, model, wrong)?;
+    }
+    if !answer.allowed.values.is_empty() {
+        write_json_allowed_answers_member(writer, alloc, model, answer)?;
+    }
+    writer.end_object()
+}
+
+/// Writes the member `core`, and `prefix` if all of its calls are in the prefix.
+pub fn write_json_core_members(
+    writer: &mut Writer<Global>,
+    alloc: Global,
+    model: &Source,
+    core: &Core<'_>,
+) -> Result<(), AllocError> {
+    writer.key("core")?;
+    writer.begin_array()?;
+    for answer in &core.answers {
+        write_json_core_answer(writer, alloc, model, answer)?;
+    }
+    writer.end_array()?;
+    if core.has_answers_only_in_prefix() {
+        write_json_bool_member(writer, "prefix", true)?;
+    }
+    Ok(())
 }

@@ -5,21 +5,21 @@ use Rattle.pst_case.specs.declared.history.History.{History}
 use Rattle.pst_grid.specs.Answers.{IsAnswer, ending}
 use Rattle.pst_grid.specs.Completions.{fill_from}
 use Rattle.pst_grid.specs.Merges.{IsMerge, IsUpTo, none_done}
-use Rattle.pst_grid.specs.declared.answer.Ending.{Ending}
-use Rattle.pst_grid.specs.declared.answer.Ending.TheVariants.{AllTrue, StopsAt}
-use Rattle.pst_grid.specs.declared.answer.SomeAnswer.{SomeAnswer}
-use Rattle.pst_grid.specs.declared.answer.SomeAnswer.TheVariants.{Found, Faulted as FaultedWord, Nothing}
-use Rattle.pst_grid.specs.declared.answer.StepOutcome.{StepOutcome}
-use Rattle.pst_grid.specs.declared.answer.StopReason.{StopReason}
-use Rattle.pst_grid.specs.declared.answer.StopReason.TheVariants.{False, Fault}
+use Rattle.pst_grid.specs.declared.steps.Ending.{Ending}
+use Rattle.pst_grid.specs.declared.steps.Ending.TheVariants.{AllTrue, StopsAt}
+use Rattle.pst_grid.specs.declared.steps.SomeAnswer.{SomeAnswer}
+use Rattle.pst_grid.specs.declared.steps.SomeAnswer.TheVariants.{Found, Faulted as FaultedWord, Nothing}
+use Rattle.pst_grid.specs.declared.steps.StepOutcome.{StepOutcome}
+use Rattle.pst_grid.specs.declared.steps.StopReason.{StopReason}
+use Rattle.pst_grid.specs.declared.steps.StopReason.TheVariants.{False, Fault}
 use Rattle.pst_grid.proofs.Filling.{Completes-fill, fill_least}
 use Rattle.pst_grid.proofs.Answering.{IsAt-none, completes, merge}
 use Rattle.pst_judge.proofs.Shifted.{shifted, shifted-true, shifted-stops, from_true, from_false, from_fault}
 use Rattle.pst_judge.specs.Replay.{Asking, replayed_asking, branch_lengths}
 use Rattle.pst_judge.specs.FromAnswer.{verdict_of}
 use Rattle.pst_judge.specs.Verdict.{IsJudgedAsking}
-use Rattle.pst_eval.specs.declared.place.FaultPlace.{FaultPlace}
-use Rattle.pst_judge.specs.declared.verdicts.Verdict.TheVariants.{Faulted, Unexplained}
+use Rattle.pst_eval.specs.declared.callbacks.FaultPlace.{FaultPlace}
+use Rattle.pst_judge.specs.declared.judgement.Verdict.TheVariants.{Faulted, Unexplained}
 use Rattle.pst_model.specs.declared.model.Source.{Source}
 use Rattle.pst_value.specs.declared.value.Value.{Value}
 

@@ -4,25 +4,25 @@ use Rattle.std.proofs.lemmas.List.{take-append-drop, length-take-le, take_all, a
 use Rattle.std.proofs.lemmas.Bool.Decides.{nat_tests}
 use Rattle.pst_case.specs.declared.case.Case.{Case}
 use Rattle.pst_case.specs.declared.history.History.{History}
-use Rattle.pst_eval.specs.declared.place.FaultPlace.{FaultPlace}
+use Rattle.pst_eval.specs.declared.callbacks.FaultPlace.{FaultPlace}
 use Rattle.pst_grid.specs.Answers.{IsAnswer, ending}
 use Rattle.pst_grid.specs.Merges.{IsMerge, IsUpTo, after, later, run, one_more, times, none_done}
-use Rattle.pst_grid.specs.declared.answer.Ending.{Ending}
-use Rattle.pst_grid.specs.declared.answer.Ending.TheVariants.{AllTrue, StopsAt}
-use Rattle.pst_grid.specs.declared.answer.SomeAnswer.{SomeAnswer}
-use Rattle.pst_grid.specs.declared.answer.SomeAnswer.TheVariants.{Found, Faulted as FaultedWord, Nothing}
-use Rattle.pst_grid.specs.declared.answer.StepOutcome.{StepOutcome}
-use Rattle.pst_grid.specs.declared.answer.StepOutcome.TheVariants.{Next, Stop}
-use Rattle.pst_grid.specs.declared.answer.StopReason.{StopReason}
-use Rattle.pst_grid.specs.declared.answer.StopReason.TheVariants.{False, Fault}
+use Rattle.pst_grid.specs.declared.steps.Ending.{Ending}
+use Rattle.pst_grid.specs.declared.steps.Ending.TheVariants.{AllTrue, StopsAt}
+use Rattle.pst_grid.specs.declared.steps.SomeAnswer.{SomeAnswer}
+use Rattle.pst_grid.specs.declared.steps.SomeAnswer.TheVariants.{Found, Faulted as FaultedWord, Nothing}
+use Rattle.pst_grid.specs.declared.steps.StepOutcome.{StepOutcome}
+use Rattle.pst_grid.specs.declared.steps.StepOutcome.TheVariants.{Next, Stop}
+use Rattle.pst_grid.specs.declared.steps.StopReason.{StopReason}
+use Rattle.pst_grid.specs.declared.steps.StopReason.TheVariants.{False, Fault}
 use Rattle.pst_judge.proofs.FromSearch.{first_merge, first_is_merge, first_is_least, judged_by}
 use Rattle.pst_judge.proofs.Shifted.{shifted, shifted-true, shifted-stops, from_false, from_fault}
 use Rattle.pst_judge.specs.FromAnswer.{verdict_of, letters_of}
 use Rattle.pst_judge.specs.Interleaving.{IsFurthestAsking, IsFaultingAsking, HasLettersAsking, IsInterleaving, word_or}
 use Rattle.pst_judge.specs.Replay.{Asking, post_asked, replayed_asking, branch_lengths}
 use Rattle.pst_judge.specs.Verdict.{IsJudgedAsking}
-use Rattle.pst_judge.specs.declared.verdicts.Verdict.{Verdict}
-use Rattle.pst_judge.specs.declared.verdicts.Verdict.TheVariants.{Explained, Faulted, Unexplained, Broken}
+use Rattle.pst_judge.specs.declared.judgement.Verdict.{Verdict}
+use Rattle.pst_judge.specs.declared.judgement.Verdict.TheVariants.{Explained, Faulted, Unexplained, Broken}
 use Rattle.pst_model.specs.declared.model.Source.{Source}
 use Rattle.pst_value.specs.declared.value.Value.{Value}
 

@@ -2,7 +2,7 @@
 use Rattle.std.proofs.Common.{◌≡◌, ◌||◌, not, ℕ, Bool, true, false, Option, Some, None, refl}
 use Rattle.std.specs.Prelude.{if◌then◌else◌}
 use Rattle.pst_case.specs.Shape.{or_else, at_command}
-use Rattle.pst_case.specs.declared.fault.CaseFaultKind.{CaseFaultKind}
+use Rattle.pst_case.specs.declared.shaping.CaseFaultKind.{CaseFaultKind}
 
 pub if_none : {A : Type 0} (b : Bool) (k : A) (o : Option A) → (if b then Some k else o) ≡ None → (b ≡ false) × (o ≡ None)
 if_none true k o h = absurd (cc)

@@ -5,7 +5,7 @@ use Rattle.pst_case.specs.Recorded.{recorded}
 use Rattle.pst_case.specs.declared.case.Command.{Command}
 use Rattle.pst_eval.specs.Callbacks.{init_of}
 use Rattle.pst_grid.specs.Merges.{run, none_done}
-use Rattle.pst_grid.specs.declared.answer.Ending.TheVariants.{AllTrue}
+use Rattle.pst_grid.specs.declared.steps.Ending.TheVariants.{AllTrue}
 use Rattle.pst_judge.specs.Laws.{EmptySuffixAddsNothing}
 use Rattle.pst_judge.specs.Replay.{replayed_asking, from_opening, run_events, part_events, prefix_events, branch_events, branch_outcome, branch_lengths}
 use Rattle.pst_judge.specs.Symbolic.{symbolic, symbolic_opening, run_commands, with_numbers, prefix_commands, branch_commands, symbolic_outcome}

@@ -3,8 +3,8 @@ use Rattle.std.proofs.Common.{◌≡◌, ℕ, List, [], ◌∷◌, Option, Some,
 use Rattle.pst_case.specs.declared.case.Case.{Case}
 use Rattle.pst_case.specs.declared.history.History.{History}
 use Rattle.pst_grid.specs.Merges.{IsUpTo, IsLeast}
-use Rattle.pst_grid.specs.declared.answer.Ending.TheVariants.{AllTrue, StopsAt}
-use Rattle.pst_grid.specs.declared.answer.StopReason.TheVariants as stop
+use Rattle.pst_grid.specs.declared.steps.Ending.TheVariants.{AllTrue, StopsAt}
+use Rattle.pst_grid.specs.declared.steps.StopReason.TheVariants as stop
 use Rattle.pst_judge.specs.Judgement.{IsJudgementOf}
 use Rattle.pst_judge.specs.Replay.{replayed}
 use Rattle.pst_case.specs.Recorded.{recorded}
@@ -14,13 +14,13 @@ use Rattle.pst_judge.specs.Validity.{IsValid, Fails, FailsFirst, IsWhy}
 use Rattle.pst_judge.specs.Verdict.{first_broken, Ends, FaultsAt, IsJudged, IsVerdictOf}
 use Rattle.pst_judge.specs.declared.judgement.Judged.{Judged}
 use Rattle.pst_judge.specs.declared.judgement.Judged.TheVariants.{Verdict as WithVerdict, Valid, Invalid}
-use Rattle.pst_eval.specs.declared.place.FaultPlace.{FaultPlace}
+use Rattle.pst_eval.specs.declared.callbacks.FaultPlace.{FaultPlace}
 use Rattle.pst_judge.specs.declared.symbolic.SymbolicFailure.{SymbolicFailure}
 use Rattle.pst_judge.specs.declared.symbolic.SymbolicFailure.TheVariants as failing
-use Rattle.pst_judge.specs.declared.verdicts.Verdict.{Verdict}
-use Rattle.pst_judge.specs.declared.verdicts.Verdict.TheVariants.{Explained, Faulted, Unexplained, Broken}
-use Rattle.pst_judge.specs.declared.why.Why.{Why}
-use Rattle.pst_judge.specs.declared.why.Why.TheVariants.{PreFalse, CallbackFault, NoMemory}
+use Rattle.pst_judge.specs.declared.judgement.Verdict.{Verdict}
+use Rattle.pst_judge.specs.declared.judgement.Verdict.TheVariants.{Explained, Faulted, Unexplained, Broken}
+use Rattle.pst_judge.specs.declared.validated.Why.{Why}
+use Rattle.pst_judge.specs.declared.validated.Why.TheVariants.{PreFalse, CallbackFault, NoMemory}
 use Rattle.pst_model.specs.declared.model.Source.{Source}
 
 -- ---- words

@@ -14,13 +14,13 @@ use Rattle.pst_grid.proofs.Searching.{IsAt-branch, IsAt-more, sum-more, sum-le, 
 use Rattle.pst_grid.specs.Answers.{IsEveryAnswer}
 use Rattle.pst_grid.specs.Completions.{Completes, IsAt}
 use Rattle.pst_grid.specs.Merges.{later, after, run, none_done, one_more}
-use Rattle.pst_grid.specs.declared.answer.Ending.TheVariants.{AllTrue}
-use Rattle.pst_grid.specs.declared.answer.EveryAnswer.TheVariants.{All}
+use Rattle.pst_grid.specs.declared.steps.Ending.TheVariants.{AllTrue}
+use Rattle.pst_grid.specs.declared.steps.EveryAnswer.TheVariants.{All}
 use Rattle.pst_judge.specs.Symbolic.{CommandFits, symbolic_step, symbolic_outcome, step_outcome, step_of, command_at, run_commands, next_step, allowed}
 use Rattle.pst_judge.specs.Replay.{branch_lengths}
 use Rattle.pst_judge.specs.SymbolicSearch.{BranchesFit, CommandsFit, IsSymbolicState, last_commands}
 use Rattle.pst_judge.specs.Total.{StepReaches, EachReaches, BranchesReach, TotalFor}
-use Rattle.pst_judge.specs.declared.numbered.NumberedCommand.{NumberedCommand}
+use Rattle.pst_judge.specs.declared.symbolic.NumberedCommand.{NumberedCommand}
 use Rattle.pst_model.specs.Fitting.{is_state}
 use Rattle.pst_model.specs.Parts.{operation_of, parameters_of}
 use Rattle.pst_model.specs.WellTyped.{WellModel, name_r, name_s}

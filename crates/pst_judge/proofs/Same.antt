@@ -14,7 +14,7 @@ use Rattle.pst_value.specs.declared.value.Value.TheOpen.{Value-F}
 use Rattle.pst_judge.proofs.Apart.{code-apart}
 use Rattle.pst_judge.specs.Codes.{code}
 use Rattle.pst_judge.specs.Forms.{IsForm}
-use Rattle.pst_judge.specs.declared.form.PackedForm.{PackedForm}
+use Rattle.pst_judge.specs.declared.packed.PackedForm.{PackedForm}
 use Rattle.pst_judge.specs.Kept.{int_level, int_of, padded, bytes_as, bytes_of}
 
 -- the form of a value, under another name of the value

@@ -1,8 +1,8 @@
 -- How a value is kept.
 use Rattle.std.specs.Prelude.{◌≡◌, ℕ, ℤ, List, [], Option, Some, None}
 use Rattle.pst_judge.specs.Kept.{int_of, bytes_of}
-use Rattle.pst_judge.specs.declared.form.PackedForm.{PackedForm}
-use Rattle.pst_judge.specs.declared.form.PackedForm.TheVariants.{Int, Short, Long}
+use Rattle.pst_judge.specs.declared.packed.PackedForm.{PackedForm}
+use Rattle.pst_judge.specs.declared.packed.PackedForm.TheVariants.{Int, Short, Long}
 use Rattle.pst_value.specs.declared.value.Value.{Value}
 
 -- the integer of a form, if it is one

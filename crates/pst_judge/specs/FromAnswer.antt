@@ -1,14 +1,14 @@
 -- The verdict that an answer of the search stands for.
 use Rattle.std.specs.Prelude.{◌≡◌, ℕ, ◌+◌, List, [], take}
-use Rattle.pst_eval.specs.declared.place.FaultPlace.{FaultPlace}
+use Rattle.pst_eval.specs.declared.callbacks.FaultPlace.{FaultPlace}
 use Rattle.pst_grid.specs.Answers.{IsAnswer}
-use Rattle.pst_grid.specs.declared.answer.SomeAnswer.{SomeAnswer}
-use Rattle.pst_grid.specs.declared.answer.SomeAnswer.TheVariants.{Found, Faulted as FaultedWord, Nothing}
+use Rattle.pst_grid.specs.declared.steps.SomeAnswer.{SomeAnswer}
+use Rattle.pst_grid.specs.declared.steps.SomeAnswer.TheVariants.{Found, Faulted as FaultedWord, Nothing}
 use Rattle.pst_judge.specs.Replay.{Asking, branch_outcome_asking}
 use Rattle.pst_judge.specs.Running.{last_events}
 use Rattle.pst_judge.specs.declared.events.Event.{Event}
-use Rattle.pst_judge.specs.declared.verdicts.Verdict.{Verdict}
-use Rattle.pst_judge.specs.declared.verdicts.Verdict.TheVariants.{Explained, Faulted, Unexplained}
+use Rattle.pst_judge.specs.declared.judgement.Verdict.{Verdict}
+use Rattle.pst_judge.specs.declared.judgement.Verdict.TheVariants.{Explained, Faulted, Unexplained}
 use Rattle.pst_model.specs.declared.model.Source.{Source}
 use Rattle.pst_value.specs.declared.value.Value.{Value}
 

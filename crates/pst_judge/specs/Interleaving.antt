@@ -2,14 +2,14 @@
 use Rattle.std.specs.Prelude.{◌≡◌, ℕ, ◌-◌, List, [], ◌++◌, length, take}
 use Rattle.pst_case.specs.declared.case.Case.{Case}
 use Rattle.pst_case.specs.declared.history.History.{History}
-use Rattle.pst_eval.specs.declared.place.FaultPlace.{FaultPlace}
+use Rattle.pst_eval.specs.declared.callbacks.FaultPlace.{FaultPlace}
 use Rattle.pst_grid.specs.Merges.{IsMerge, IsLeast}
-use Rattle.pst_grid.specs.declared.answer.Ending.TheVariants.{StopsAt}
-use Rattle.pst_grid.specs.declared.answer.StopReason.TheVariants as why
+use Rattle.pst_grid.specs.declared.steps.Ending.TheVariants.{StopsAt}
+use Rattle.pst_grid.specs.declared.steps.StopReason.TheVariants as why
 use Rattle.pst_judge.specs.Replay.{Asking, post_asked, replayed_asking, branch_lengths}
 use Rattle.pst_judge.specs.Verdict.{EndsAsking, FaultsAsking}
-use Rattle.pst_judge.specs.declared.verdicts.Verdict.{Verdict}
-use Rattle.pst_judge.specs.declared.verdicts.Verdict.TheVariants.{Explained, Faulted, Unexplained, Broken}
+use Rattle.pst_judge.specs.declared.judgement.Verdict.{Verdict}
+use Rattle.pst_judge.specs.declared.judgement.Verdict.TheVariants.{Explained, Faulted, Unexplained, Broken}
 use Rattle.pst_model.specs.declared.model.Source.{Source}
 
 -- the letters of the true events of a merge that stops after so many, those of the prefix included: all

@@ -2,15 +2,15 @@
 use Rattle.std.specs.Prelude.{◌≡◌, ◌<◌, ℕ, suc, true, List, [], ◌∷◌, slice_index, Some}
 use Rattle.pst_case.specs.Shape.{result_types}
 use Rattle.pst_case.specs.declared.case.Case.{Case}
-use Rattle.pst_eval.specs.declared.place.FaultPlace.{FaultPlace}
-use Rattle.pst_grid.specs.declared.answer.Ending.{Ending}
-use Rattle.pst_grid.specs.declared.answer.Ending.TheVariants.{AllTrue, StopsAt}
-use Rattle.pst_grid.specs.declared.answer.StepOutcome.{StepOutcome}
-use Rattle.pst_grid.specs.declared.answer.StepOutcome.TheVariants.{Next, Stop}
+use Rattle.pst_eval.specs.declared.callbacks.FaultPlace.{FaultPlace}
+use Rattle.pst_grid.specs.declared.steps.Ending.{Ending}
+use Rattle.pst_grid.specs.declared.steps.Ending.TheVariants.{AllTrue, StopsAt}
+use Rattle.pst_grid.specs.declared.steps.StepOutcome.{StepOutcome}
+use Rattle.pst_grid.specs.declared.steps.StepOutcome.TheVariants.{Next, Stop}
 use Rattle.pst_judge.specs.Replay.{Asking, EventFits, outcome_asking, event_at, branch_lengths, run_asking}
 use Rattle.pst_judge.specs.declared.events.Event.{Event}
-use Rattle.pst_judge.specs.declared.running.EventsEnd.{EventsEnd}
-use Rattle.pst_judge.specs.declared.running.EventsEnd.TheVariants.{Through, Stopped}
+use Rattle.pst_judge.specs.declared.replay.EventsEnd.{EventsEnd}
+use Rattle.pst_judge.specs.declared.replay.EventsEnd.TheVariants.{Through, Stopped}
 use Rattle.pst_model.specs.Fitting.{is_state}
 use Rattle.pst_model.specs.declared.model.Source.{Source}
 use Rattle.pst_value.specs.declared.ty.Ty.{Ty}

@@ -2,7 +2,7 @@
 -- precondition is true, and its next state comes without a fault.
 use Rattle.std.specs.Prelude.{◌≡◌, ℕ, zero, suc, true, List, [], ◌∷◌}
 use Rattle.pst_eval.specs.Callbacks.{max_turns, pre_of, next_of}
-use Rattle.pst_judge.specs.declared.numbered.NumberedCommand.{NumberedCommand}
+use Rattle.pst_judge.specs.declared.symbolic.NumberedCommand.{NumberedCommand}
 use Rattle.pst_model.specs.declared.model.Source.{Source}
 use Rattle.pst_operators.specs.Operators.{bool}
 use Rattle.pst_operators.specs.Outcome.{Gives}

@@ -2,14 +2,14 @@
 use Rattle.std.specs.Prelude.{◌≡◌, ℕ, List, Option, Some, None}
 use Rattle.pst_case.specs.declared.case.Case.{Case}
 use Rattle.pst_grid.specs.Merges.{IsMerge, IsLeast}
-use Rattle.pst_grid.specs.declared.answer.Ending.TheVariants.{AllTrue, StopsAt}
-use Rattle.pst_grid.specs.declared.answer.StopReason.TheVariants as stop
+use Rattle.pst_grid.specs.declared.steps.Ending.TheVariants.{AllTrue, StopsAt}
+use Rattle.pst_grid.specs.declared.steps.StopReason.TheVariants as stop
 use Rattle.pst_judge.specs.Replay.{branch_lengths}
 use Rattle.pst_judge.specs.Symbolic.{symbolic}
 use Rattle.pst_judge.specs.declared.symbolic.SymbolicFailure.{SymbolicFailure}
 use Rattle.pst_judge.specs.declared.symbolic.SymbolicFailure.TheVariants as failing
-use Rattle.pst_judge.specs.declared.why.Why.{Why}
-use Rattle.pst_judge.specs.declared.why.Why.TheVariants.{PreFalse, CallbackFault, NoMemory}
+use Rattle.pst_judge.specs.declared.validated.Why.{Why}
+use Rattle.pst_judge.specs.declared.validated.Why.TheVariants.{PreFalse, CallbackFault, NoMemory}
 use Rattle.pst_model.specs.declared.model.Source.{Source}
 
 module _ (m : Source) (c : Case) where

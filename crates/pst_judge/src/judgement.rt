@@ -1,14 +1,15 @@
-//! The judgement of an item: a case, with or without a recorded history.
-ghost use Rattle.std.specs.Prelude.{◌≡◌, IfOk, string_bytes};
+//! The judgement of an item, the verdict on a history, and interleavings, each with its printed text.
+ghost use Rattle.std.specs.Prelude.{◌≡◌, IfOk, string_bytes, ◌∷◌, []};
 ghost use Rattle.pst_judge.specs.JudgedText.{judged_text};
 ghost use Rattle.pst_judge.specs.Judgement.{HistoryMatches, IsJudgement};
+ghost use Rattle.pst_judge.specs.VerdictText.{verdict_text};
+ghost use Rattle.pst_judge.specs.Words.{letter};
 
 use crate::judging::verdict;
+use crate::validated::Why;
 use crate::validity::why_invalid;
-use crate::verdicts::Verdict;
-use crate::why::Why;
 use pst_case::Run;
-use pst_eval::Callbacks;
+use pst_eval::{Callbacks, FaultPlace};
 use std::alloc::{AllocError, Global};
 use std::fmt;
 
@@ -64,5 +65,90 @@ impl Judged {
         ensures { IfOk result (λ text. string_bytes text ≡ judged_text self.now) }
     {
         format!(in alloc; "{self}")
+    }
+}
+
+/// The verdict on a history.
+#[derive(Debug, PartialEq, Eq, Drop)]
+pub enum Verdict {
+    /// The first interleaving of the branches in which every event is true, from the prefix to the end of the suffix:
+    /// the numbers of its branches, from 0.
+    Explained(Vec<usize>),
+    /// In no interleaving is every event true. The first interleaving that faults does so here.
+    Faulted(FaultPlace),
+    /// In no interleaving is every event true, and none faults. This is the highest number of true events before a
+    /// false one, including those of the prefix and of the suffix.
+    Unexplained(usize),
+    /// The first command whose reply is no value.
+    Broken(u32),
+}
+
+impl fmt::Display for Verdict {
+    ghost use Rattle.std.specs.Prelude.{Some};
+    ghost use Rattle.pst_judge.specs.VerdictText.{verdict_text};
+
+    ghost output = { λ verdict. Some (verdict_text verdict) };
+
+    fn fmt<W: fmt::Write>(&self, f: &mut fmt::Formatter<W>) -> fmt::Result {
+        match self {
+            Verdict::Explained(word) => {
+                let branches = word.as_slice();
+                let word = InterleavingText { branches };
+                write!(f, "explained {word}")
+            }
+            Verdict::Faulted(place) => {
+                let command = place.command;
+                let callback = place.callback.name();
+                let fault = place.fault.name();
+                write!(f, "fault {command} {callback} {fault}")
+            }
+            Verdict::Unexplained(far) => write!(f, "unexplained far {far}"),
+            Verdict::Broken(command) => write!(f, "broken {command}"),
+        }
+    }
+}
+
+impl Verdict {
+    /// The verdict as text, such as `explained LR`, `unexplained far 1`, `fault 1 next Overflow` or `broken 1`.
+    pub fn text(&self, alloc: Global) -> Result<String, AllocError>
+        ensures { IfOk result (λ text. string_bytes text ≡ verdict_text self.now) }
+    {
+        format!(in alloc; "{self}")
+    }
+}
+
+/// A list of branch numbers, from 0. It is printed as a letter for each number, and the empty list as `-`.
+#[derive(Clone, Copy, Drop)]
+pub struct InterleavingText<'a> {
+    pub branches: &'a [usize],
+}
+
+/// Returns the letter of branch `branch`, counted from 0.
+fn branch_letter(branch: usize) -> &'static str
+    ensures { result.now ≡ letter branch ∷ [] }
+{
+    match branch {
+        0 => "L",
+        1 => "R",
+        2 => "S",
+        _ => "T",
+    }
+}
+
+impl fmt::Display for InterleavingText<'_> {
+    ghost use Rattle.std.specs.Prelude.{Some};
+    ghost use Rattle.pst_judge.specs.VerdictText.{word_text};
+
+    ghost output = { λ word. Some (word_text word.branches.now) };
+
+    fn fmt<W: fmt::Write>(&self, f: &mut fmt::Formatter<W>) -> fmt::Result {
+        if self.branches.is_empty() {
+            return write!(f, "-");
+        }
+        for branch in self.branches {
+            let letter = branch_letter(*branch);
+            write!(f, "{letter}")?;
+        }
+        Ok(())
     }
 }

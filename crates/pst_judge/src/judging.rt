@@ -12,11 +12,10 @@ ghost use Rattle.pst_judge.specs.Validity.{IsValid};
 ghost use Rattle.pst_judge.specs.Verdict.{first_broken, IsVerdict, IsVerdictAsking, IsJudgedAsking};
 ghost use Rattle.pst_model.specs.WellTyped.{WellModel};
 
-use crate::condition::{Condition, Postconditions};
-use crate::history_events::{branch_and_suffix_events, events_of_prefix};
-use crate::running::{EventsEnd, run_events};
+use crate::events::{branch_and_suffix_events, events_of_prefix};
+use crate::judgement::Verdict;
+use crate::replay::{Condition, EventsEnd, Postconditions, run_events};
 use crate::search::search;
-use crate::verdicts::Verdict;
 use pst_case::{History, Shaped};
 use pst_eval::{Callback, Callbacks, FaultPlace};
 use pst_grid::StopReason;

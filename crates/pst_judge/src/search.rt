@@ -5,12 +5,10 @@ ghost use Rattle.pst_judge.specs.FromAnswer.{IsVerdictOfSearch, OnNothing, lette
 ghost use Rattle.pst_judge.specs.Replay.{branch_lengths};
 ghost use Rattle.pst_judge.specs.Running.{BranchesFit, EventsFit, IsRealState};
 
-use crate::condition::Condition;
 use crate::events::Event;
+use crate::judgement::Verdict;
 use crate::packed::Packed;
-use crate::replay::replay_event;
-use crate::running::run_suffix;
-use crate::verdicts::Verdict;
+use crate::replay::{Condition, replay_event, run_suffix};
 use pst_case::{Command, Shaped};
 use pst_eval::{Callbacks, FaultPlace};
 use pst_grid::{Ending, SomeAnswer, StepOutcome, Steps, some};

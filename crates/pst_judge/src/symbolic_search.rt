@@ -3,17 +3,16 @@ ghost use Rattle.std.specs.Prelude.{◌≡◌, ◌+◌, ◌++◌, ◌<◌, ◌�
 ghost use Rattle.pst_case.specs.Shape.{result_types};
 ghost use Rattle.pst_judge.specs.Replay.{branch_lengths};
 ghost use Rattle.pst_grid.specs.Answers.{IsEveryAnswer};
-ghost use Rattle.pst_grid.specs.declared.answer.EveryAnswer.TheVariants.{All};
+ghost use Rattle.pst_grid.specs.declared.steps.EveryAnswer.TheVariants.{All};
 ghost use Rattle.pst_judge.specs.Symbolic.{symbolic_outcome};
 ghost use Rattle.pst_judge.specs.SymbolicSearch.{BranchesFit, CommandsFit, FailsByReason, IsReasonOf, IsReasonOfSearch, IsSymbolicState, in_turn, last_commands, reason_of, reason_of_answer};
 
 use crate::events::{split_first_branch_commands, split_first_command};
-use crate::numbered::NumberedCommand;
 use crate::packed::Packed;
 use crate::search::count_commands_in_each_branch;
-use crate::symbolic::{SymbolicFailure, run_command_symbolically, run_suffix};
+use crate::symbolic::{NumberedCommand, SymbolicFailure, run_command_symbolically, run_suffix};
 use crate::total::form_shows_no_command_fails;
-use crate::why::Why;
+use crate::validated::Why;
 use pst_case::{Command, Shaped};
 use pst_eval::Callbacks;
 use pst_grid::{Ending, EveryAnswer, StepOutcome, Steps, every};
@@ -36,7 +35,7 @@ impl<'a, C: Callbacks> Steps for SymbolicBranches<'a, C> {
     ghost use Rattle.pst_case.specs.Shape.{result_types};
     ghost use Rattle.pst_judge.specs.Symbolic.{CommandFits, symbolic_outcome, command_at};
     ghost use Rattle.pst_judge.specs.SymbolicSearch.{CommandsFit, IsSymbolicState, last_commands};
-    ghost use Rattle.pst_judge.specs.declared.numbered.NumberedCommand.{NumberedCommand};
+    ghost use Rattle.pst_judge.specs.declared.symbolic.NumberedCommand.{NumberedCommand};
     ghost use Rattle.pst_judge.specs.Feeding.{fed};
     ghost use Rattle.pst_value.proofs.Exact.{same_value-Decides};
 

@@ -3,7 +3,7 @@ ghost use Rattle.std.specs.Prelude.{◌≡◌, IsTrue, IfSome};
 ghost use Rattle.pst_judge.specs.Total as spec;
 ghost use Rattle.pst_eval.specs.Reach.{reach_of_value};
 
-use crate::numbered::NumberedCommand;
+use crate::symbolic::NumberedCommand;
 use pst_eval::{NamesWithReach, greater, reach_of_expression, reach_of_value};
 use pst_model::{Expr, Source, operation_of};
 use pst_value::{Items, Value};

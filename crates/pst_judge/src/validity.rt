@@ -9,13 +9,14 @@ ghost use Rattle.pst_judge.specs.Validity.{IsValid, IsWhy, IsReason};
 ghost use Rattle.pst_model.specs.WellTyped.{WellModel};
 
 use crate::events::number_after;
-use crate::numbered::{append_numbered_commands, branches_with_numbers};
-use crate::symbolic::{callback_fault_at_command, run_commands_symbolically};
+use crate::symbolic::{
+    append_numbered_commands, branches_with_numbers, callback_fault_at_command,
+    run_commands_symbolically,
+};
 use crate::symbolic_search::{
     SymbolicBranches, find_first_failing_interleaving, reason_with_first_interleaving,
 };
-use crate::validated::Valid;
-use crate::why::Why;
+use crate::validated::{Valid, Why};
 use pst_case::Shaped;
 use pst_eval::{Callback, Callbacks};
 use pst_value::{Items, Value};

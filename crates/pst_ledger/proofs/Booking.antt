@@ -2,8 +2,8 @@
 use Rattle.std.proofs.Common.{◌≡◌, ℕ, zero, suc, ◌+◌, ◌<◌, ◌≤◌, List, [], ◌∷◌, length, set, refl, ap, ◌∙◌, subst, arith, Option, Some, None}
 use Rattle.std.specs.Prelude.{slice_get, replicate}
 use Rattle.pst_ledger.specs.declared.entry.Entry.{Entry}
-use Rattle.pst_ledger.specs.declared.spot.Spot.{Spot}
-use Rattle.pst_ledger.specs.declared.spot.Spot.TheVariants.{Free, Holder, Ended}
+use Rattle.pst_ledger.specs.declared.book.Spot.{Spot}
+use Rattle.pst_ledger.specs.declared.book.Spot.TheVariants.{Free, Holder, Ended}
 use Rattle.pst_ledger.specs.Core.{one_later, FreeFrom, least_free}
 
 abbrev more : Option ℕ → Option ℕ

@@ -10,7 +10,7 @@ use Rattle.atomic_table.specs.Table.{State, Final, Seen}
 use Rattle.atomic_table.specs.Seated.{TableId}
 use Rattle.pst_ledger.specs.declared.entry.Entry.{Entry}
 use Rattle.pst_ledger.specs.declared.entry.Entry.TheVariants.{Undrawn, Held}
-use Rattle.pst_ledger.specs.declared.rule.View.{View}
+use Rattle.pst_ledger.specs.declared.seat.View.{View}
 use Rattle.pst_ledger.specs.declared.seat.Seat.TheInside.{Inside}
 use Rattle.pst_ledger.specs.Count.{one_if, times, keys, total_of}
 use Rattle.pst_ledger.specs.Rule.{Kept, AtHome, with_end}

@@ -6,10 +6,10 @@ use native.Mathlib.Decide.{ℕ_discrete}
 use Rattle.pst_ledger.specs.declared.entry.Entry.{Entry}
 use Rattle.pst_ledger.specs.Count.{times}
 use Rattle.pst_ledger.specs.Seats.{SeatView, Rising, all_ends}
-use Rattle.pst_ledger.specs.declared.spot.Spot.{Spot}
-use Rattle.pst_ledger.specs.declared.spot.Spot.TheVariants.{Free, Holder, Ended}
+use Rattle.pst_ledger.specs.declared.book.Spot.{Spot}
+use Rattle.pst_ledger.specs.declared.book.Spot.TheVariants.{Free, Holder, Ended}
 use Rattle.pst_ledger.specs.Core.{one_later, Core, Event, claim, finish, Answer, accepted, refused, least_free, after_claim, after_finish, after, run, HoldsNone, IsLegal}
-use Rattle.pst_ledger.specs.declared.fault.LedgerFault.TheVariants.{NotYours}
+use Rattle.pst_ledger.specs.declared.ledger.LedgerFault.TheVariants.{NotYours}
 use Rattle.pst_ledger.proofs.Totals.{one-other}
 use Rattle.pst_ledger.specs.Line.{drawer, end_at, finish_if, at_number, numbers_from, spot_of, spots_from}
 

@@ -6,10 +6,10 @@ use native.Mathlib.Decide.{ℕ_discrete, dec_le}
 use Rattle.pst_ledger.specs.declared.entry.Entry.{Entry}
 use Rattle.pst_ledger.specs.Count.{one_if, times, keys}
 use Rattle.pst_ledger.specs.Seats.{SeatView, Rising, held_list, InOrder, AllInOrder, all_draws, all_ends, Shows, SomeMarked, Settles}
-use Rattle.pst_ledger.specs.declared.spot.Spot.{Spot}
-use Rattle.pst_ledger.specs.declared.spot.Spot.TheVariants.{Free, Holder, Ended}
+use Rattle.pst_ledger.specs.declared.book.Spot.{Spot}
+use Rattle.pst_ledger.specs.declared.book.Spot.TheVariants.{Free, Holder, Ended}
 use Rattle.pst_ledger.specs.Core.{Core, Event, claim, finish, Answer, granted, none_left, accepted, refused, after_claim, after_finish, after, run, opening_core}
-use Rattle.pst_ledger.specs.declared.fault.LedgerFault.TheVariants.{NotYours}
+use Rattle.pst_ledger.specs.declared.ledger.LedgerFault.TheVariants.{NotYours}
 use Rattle.pst_ledger.specs.Line.{past_if, drawer, end_at, finish_if, at_number, numbers_from, empty_claims, line, spot_of, spots_from, answered, seat_of, part_of, ends_part, held_part, mark_part, own_part, KeepsOrder}
 use Rattle.pst_ledger.proofs.Totals.{one-same, one-other, times-append, keys-append}
 use Rattle.pst_ledger.proofs.Seats.{held_list-times}

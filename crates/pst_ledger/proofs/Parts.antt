@@ -7,8 +7,8 @@ use Rattle.pst_ledger.specs.declared.entry.Entry.{Entry}
 use Rattle.pst_ledger.specs.declared.entry.Entry.TheVariants.{Undrawn}
 use Rattle.pst_ledger.specs.Count.{times, keys}
 use Rattle.pst_ledger.specs.Seats.{SeatView, Rising, held_list, InOrder, AllInOrder, all_draws, all_ends, Shows, SomeMarked, Settles}
-use Rattle.pst_ledger.specs.declared.spot.Spot.{Spot}
-use Rattle.pst_ledger.specs.declared.spot.Spot.TheVariants.{Free}
+use Rattle.pst_ledger.specs.declared.book.Spot.{Spot}
+use Rattle.pst_ledger.specs.declared.book.Spot.TheVariants.{Free}
 use Rattle.pst_ledger.specs.Core.{Core, claim, after_claim, run, HoldsNone, IsLegal, opening_core, shown}
 use Rattle.pst_ledger.specs.Line.{past_if, drawer, end_at, numbers_from, empty_claims, line, spot_of, spots_from, IsLine}
 use Rattle.pst_ledger.proofs.Totals.{one-other, times-append, keys-append}

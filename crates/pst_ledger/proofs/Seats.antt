@@ -3,7 +3,7 @@ use Rattle.std.proofs.Common.{◌≡◌, ◌≢◌, ℕ, zero, suc, ◌+◌, ◌
 use Rattle.std.specs.Prelude.{vec_len, vec_capacity}
 use Rattle.pst_ledger.specs.declared.entry.Entry.{Entry}
 use Rattle.pst_ledger.specs.declared.entry.Entry.TheVariants.{Undrawn}
-use Rattle.pst_ledger.specs.declared.rule.View.{View}
+use Rattle.pst_ledger.specs.declared.seat.View.{View}
 use Rattle.pst_ledger.specs.declared.seat.Seat.TheInside.{Inside}
 use Rattle.pst_ledger.specs.Count.{one_if, times, keys}
 use Rattle.pst_ledger.specs.Rule.{with_draw, with_end}

@@ -11,7 +11,7 @@ use Rattle.atomic_table.specs.Table.{State, step, Act, keeps, takes, gives, step
 use Rattle.atomic_table.proofs.Lists.{at_set, at_snoc, set_here, set_else}
 use Rattle.pst_ledger.specs.declared.entry.Entry.{Entry}
 use Rattle.pst_ledger.specs.declared.entry.Entry.TheVariants.{Undrawn}
-use Rattle.pst_ledger.specs.declared.rule.View.{View}
+use Rattle.pst_ledger.specs.declared.seat.View.{View}
 use Rattle.pst_ledger.specs.Count.{times, total_of, keys}
 use Rattle.pst_ledger.specs.Rule.{fresh, one_less, one_part, together, Fits, Kept, Knows, with_draw, with_mark, with_end, drew, finished}
 use Rattle.pst_ledger.proofs.Totals.{total-set, total-snoc, total-at, total-two, total-le, times-append, times-snoc_same, times-snoc_other, keys-append}

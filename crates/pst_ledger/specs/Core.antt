@@ -2,10 +2,10 @@
 use Rattle.std.specs.Prelude.{◌≢◌, ℕ, zero, suc, ◌+◌, ⊤, Bool, true, false, cond, eqb, List, [], ◌∷◌, Option, Some, None, slice_get, slice_set, replicate}
 use Rattle.pst_ledger.specs.declared.entry.Entry.{Entry}
 use Rattle.pst_ledger.specs.declared.entry.Entry.TheVariants.{Undrawn, Held}
-use Rattle.pst_ledger.specs.declared.fault.LedgerFault.{LedgerFault}
-use Rattle.pst_ledger.specs.declared.fault.LedgerFault.TheVariants.{NotYours, Twice}
-use Rattle.pst_ledger.specs.declared.spot.Spot.{Spot}
-use Rattle.pst_ledger.specs.declared.spot.Spot.TheVariants.{Free, Holder, Ended}
+use Rattle.pst_ledger.specs.declared.ledger.LedgerFault.{LedgerFault}
+use Rattle.pst_ledger.specs.declared.ledger.LedgerFault.TheVariants.{NotYours, Twice}
+use Rattle.pst_ledger.specs.declared.book.Spot.{Spot}
+use Rattle.pst_ledger.specs.declared.book.Spot.TheVariants.{Free, Holder, Ended}
 
 -- what is known of each number, and of each seat whether it was answered None
 pub record Core (R : Type 0) : Type 0 where

@@ -2,7 +2,7 @@
 use Rattle.std.specs.Prelude.{◌≡◌, ℕ, ◌≤◌, true, List, [], ◌∷◌, ◌++◌, Option, Some, None, vec_capacity}
 use Rattle.pst_ledger.specs.declared.entry.Entry.{Entry}
 use Rattle.pst_ledger.specs.declared.entry.Entry.TheVariants.{Undrawn, Held}
-use Rattle.pst_ledger.specs.declared.rule.View.{View}
+use Rattle.pst_ledger.specs.declared.seat.View.{View}
 use Rattle.pst_ledger.specs.declared.seat.Seat.TheInside as seat
 use Rattle.pst_ledger.specs.Count.{one_if, keys}
 use Rattle.pst_ledger.specs.Rule.{fresh, together}

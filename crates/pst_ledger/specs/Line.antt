@@ -1,8 +1,8 @@
 -- One list of events that the seats of a closed ledger amount to.
 use Rattle.std.specs.Prelude.{◌≡◌, ℕ, zero, suc, Bool, true, false, cond, eqb, List, [], ◌∷◌, ◌++◌, map, length, Option, Some, None, slice_get}
 use Rattle.pst_ledger.specs.declared.entry.Entry.{Entry}
-use Rattle.pst_ledger.specs.declared.spot.Spot.{Spot}
-use Rattle.pst_ledger.specs.declared.spot.Spot.TheVariants.{Holder, Ended}
+use Rattle.pst_ledger.specs.declared.book.Spot.{Spot}
+use Rattle.pst_ledger.specs.declared.book.Spot.TheVariants.{Holder, Ended}
 use Rattle.pst_ledger.specs.Core.{Core, Event, claim, finish, Answer, granted, none_left, accepted, after, run, IsLegal, opening_core, shown}
 use Rattle.pst_ledger.specs.Count.{times}
 use Rattle.pst_ledger.specs.Seats.{SeatView, Settles, all_ends}

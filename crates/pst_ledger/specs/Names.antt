@@ -2,10 +2,10 @@
 use Rattle.std.specs.Prelude.{ℕ, List, codes}
 use Rattle.pst_ledger.specs.declared.entry.Cause.{Cause}
 use Rattle.pst_ledger.specs.declared.entry.Cause.TheVariants.{ResetFailed, NoThread, NoMemory}
-use Rattle.pst_ledger.specs.declared.fault.CloseFault.{CloseFault}
-use Rattle.pst_ledger.specs.declared.fault.CloseFault.TheVariants.{MissingSeat}
-use Rattle.pst_ledger.specs.declared.fault.LedgerFault.{LedgerFault}
-use Rattle.pst_ledger.specs.declared.fault.LedgerFault.TheVariants.{NotYours, Twice}
+use Rattle.pst_ledger.specs.declared.ledger.CloseFault.{CloseFault}
+use Rattle.pst_ledger.specs.declared.ledger.CloseFault.TheVariants.{MissingSeat}
+use Rattle.pst_ledger.specs.declared.ledger.LedgerFault.{LedgerFault}
+use Rattle.pst_ledger.specs.declared.ledger.LedgerFault.TheVariants.{NotYours, Twice}
 
 -- the bytes of a cause's name
 abbrev pub cause_name : Cause → List ℕ

@@ -1,10 +1,10 @@
 -- Lists of calls, as events, and what the book answers to them.
 use Rattle.std.specs.Prelude.{ℕ, ◌<◌, ⊤, List, [], ◌∷◌, length}
 use Rattle.pst_ledger.specs.declared.entry.Entry.TheVariants.{Done, Lost}
-use Rattle.pst_ledger.specs.declared.calls.BookCall.{BookCall}
-use Rattle.pst_ledger.specs.declared.calls.BookCall.TheVariants as call
-use Rattle.pst_ledger.specs.declared.calls.BookReply.{BookReply}
-use Rattle.pst_ledger.specs.declared.calls.BookReply.TheVariants as reply
+use Rattle.pst_ledger.specs.declared.book.BookCall.{BookCall}
+use Rattle.pst_ledger.specs.declared.book.BookCall.TheVariants as call
+use Rattle.pst_ledger.specs.declared.book.BookReply.{BookReply}
+use Rattle.pst_ledger.specs.declared.book.BookReply.TheVariants as reply
 use Rattle.pst_ledger.specs.Core.{Core, Event, claim, finish, Answer, granted, none_left, accepted, refused, after, HoldsNone}
 
 -- the answer that a reply stands for

@@ -3,7 +3,7 @@ use Rattle.std.specs.Prelude.{◌≡◌, ℕ, ◌+◌, ◌-◌, ◌^◌, ◌<◌
 use Rattle.atomic_table.specs.Table.{State, Me, Step}
 use Rattle.pst_ledger.specs.declared.entry.Entry.{Entry}
 use Rattle.pst_ledger.specs.declared.entry.Entry.TheVariants.{Undrawn}
-use Rattle.pst_ledger.specs.declared.rule.View.{View}
+use Rattle.pst_ledger.specs.declared.seat.View.{View}
 use Rattle.pst_ledger.specs.Count.{times, total_of, keys}
 use lib.ListN.{get_elem?}
 use mathlib.Core.Option.{Option, some}

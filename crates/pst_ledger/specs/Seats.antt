@@ -3,8 +3,8 @@ use Rattle.std.specs.Prelude.{◌≡◌, ◌≢◌, ℕ, ◌≤◌, ◌<◌, ◌
 use Rattle.atomic_table.specs.Seated.{TableId}
 use Rattle.pst_ledger.specs.declared.entry.Entry.{Entry}
 use Rattle.pst_ledger.specs.declared.entry.Entry.TheVariants.{Undrawn, Held}
-use Rattle.pst_ledger.specs.declared.fault.LedgerFault.{LedgerFault}
-use Rattle.pst_ledger.specs.declared.fault.LedgerFault.TheVariants.{NotYours, Twice}
+use Rattle.pst_ledger.specs.declared.ledger.LedgerFault.{LedgerFault}
+use Rattle.pst_ledger.specs.declared.ledger.LedgerFault.TheVariants.{NotYours, Twice}
 use Rattle.pst_ledger.specs.Count.{times, keys}
 
 -- ---- seats

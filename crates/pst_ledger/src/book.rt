@@ -1,14 +1,13 @@
-//! The ledger of one thread.
-ghost use Rattle.std.specs.Prelude.{◌≡◌, ◌≤◌, ◌<◌, length, map, replicate, false, slice_get, Some, MatchOption, MatchResult, IfOk, IfErr, [], vec_len, vec_capacity};
-ghost use Rattle.pst_ledger.specs.Core.{claim, finish, after, claim_answer, accepted, refused, opening_core, HoldsNone, shown};
+//! The ledger of one thread, what it knows of each number, and whole lists of calls on it.
+ghost use Rattle.std.specs.Prelude.{◌≡◌, ◌≤◌, ◌<◌, length, map, replicate, false, slice_get, Some, MatchOption, MatchResult, IfOk, IfErr, [], vec_len, vec_capacity, ◌+◌, ◌++◌};
+ghost use Rattle.pst_ledger.specs.Core.{claim, finish, after, claim_answer, accepted, refused, opening_core, HoldsNone, shown, run};
 ghost use Rattle.pst_ledger.specs.declared.entry.Entry.{Entry};
 ghost use Rattle.pst_ledger.specs.declared.entry.Entry.TheVariants.{Done, Lost};
-ghost use Rattle.pst_ledger.specs.declared.spot.Spot.TheVariants.{Free, Holder};
+ghost use Rattle.pst_ledger.specs.declared.book.Spot.TheVariants.{Free, Holder};
+ghost use Rattle.pst_ledger.specs.Replay.{event_of, answer_of, answers, IsAllowed, AllAllowed};
 
-use crate::closed::Closed;
-use crate::entry::{Cause, Entry, Numbered};
-use crate::fault::LedgerFault;
-use crate::spot::Spot;
+use crate::entry::{Cause, Closed, Entry, Numbered};
+use crate::ledger::LedgerFault;
 use std::alloc::{AllocError, Global};
 use std::marker::Model;
 
@@ -180,5 +179,93 @@ impl<R: Numbered> Book<R> {
         Closed {
             entries: move_spots_into_entries(spots, room),
         }
+    }
+}
+
+/// What a book knows of one trial's number. Seats are numbered from 0.
+#[derive(Drop)]
+pub enum Spot<R> {
+    /// No seat drew it.
+    Free,
+    /// This seat holds it.
+    Holder(u64),
+    /// This seat has ended it with the entry.
+    Ended(u64, Entry<R>),
+}
+
+impl<R> Spot<R> {
+    /// The entry that shows what is known.
+    pub(crate) fn into_entry(self) -> Entry<R>
+        ensures { result ≡ shown self }
+    {
+        match self {
+            Spot::Free => Entry::Undrawn,
+            Spot::Holder(_) => Entry::Held,
+            Spot::Ended(_, entry) => entry,
+        }
+    }
+}
+
+/// A call that a seat makes on a book.
+#[derive(Drop)]
+pub enum BookCall<R> {
+    /// The seat claims a number.
+    Claim(u64),
+    /// The seat deposits a record.
+    Deposit(u64, R),
+    /// The seat gives up a number for this cause.
+    Lose(u64, u64, Cause),
+}
+
+/// The reply of a book to a call.
+#[derive(Debug, PartialEq, Eq, Drop)]
+pub enum BookReply {
+    /// This number was claimed.
+    Granted(u64),
+    /// No number was free.
+    NoneLeft,
+    /// The number was ended.
+    Accepted,
+    /// The number was not ended, for this reason.
+    Refused(LedgerFault),
+}
+
+/// Makes one call. A record that is refused is dropped.
+fn make_call<R: Numbered>(book: &mut Book<R>, call: BookCall<R>) -> BookReply
+    requires allowed { IsAllowed book.old (event_of R.number_of call) }
+    ensures { after book.old (event_of R.number_of call) ≡ (book.new, answer_of result) }
+{
+    match call {
+        BookCall::Claim(seat) => match book.claim(seat) {
+            Some(number) => BookReply::Granted(number),
+            None => BookReply::NoneLeft,
+        },
+        BookCall::Deposit(seat, record) => match book.deposit(seat, record) {
+            Ok(()) => BookReply::Accepted,
+            Err((_, fault)) => BookReply::Refused(fault),
+        },
+        BookCall::Lose(seat, number, cause) => match book.lose(seat, number, cause) {
+            Ok(()) => BookReply::Accepted,
+            Err(fault) => BookReply::Refused(fault),
+        },
+    }
+}
+
+/// Makes the calls in their order, and adds a reply for each. Whatever the calls, the replies and the book
+/// after them are those of the definition. A record that is refused is dropped.
+pub fn make_calls_and_add_replies<R: Numbered>(
+    book: &mut Book<R>,
+    calls: Vec<BookCall<R>>,
+    replies: &mut Vec<BookReply>,
+)
+    requires allowed { AllAllowed book.old (map (event_of R.number_of) calls.items) }
+    requires room { vec_len replies.old + vec_len calls ≤ vec_capacity replies.old }
+    ensures book { book.new ≡ run book.old (map (event_of R.number_of) calls.items) }
+    ensures replies { map answer_of replies.new.items
+        ≡ map answer_of replies.old.items ++ answers book.old (map (event_of R.number_of) calls.items) }
+{
+    for call in calls {
+        let reply = make_call(book, call);
+        replies.push_reserved(reply);
     }
 }

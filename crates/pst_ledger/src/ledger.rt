@@ -1,16 +1,14 @@
-//! The ledger that threads share.
+//! The ledger that threads share, and why a ledger refuses a call.
 ghost use Rattle.std.specs.Prelude.{◌≡◌, ◌≢◌, ◌≤◌, ◌<◌, [], length, replicate, true, None, Some, MatchOption, MatchResult, IfOk};
 ghost use Rattle.pst_ledger.specs.Inside.{settled, gathered};
 ghost use Rattle.pst_ledger.specs.Line.{IsClosed};
 ghost use Rattle.pst_ledger.specs.Rule.{fresh};
 ghost use Rattle.pst_ledger.specs.Seats.{new_seat, drawing, marking, ending, HasEnded, HasRefused, OfTable, InOrder, AllInOrder};
 ghost use Rattle.pst_ledger.specs.declared.entry.Entry.TheVariants.{Undrawn, Done, Lost};
+ghost use Rattle.pst_ledger.specs.Names.{ledger_fault_name, close_fault_name};
 
-use crate::closed::{Closed, take_entries_and_free_table};
-use crate::entry::{Cause, Entry, Numbered};
-use crate::fault::{CloseFault, LedgerFault};
-use crate::rule::{Draw, Enter, Finish, Numbers, OnePart, Together, View};
-use crate::seat::Seat;
+use crate::entry::{Cause, Closed, Entry, Numbered, take_entries_and_free_table};
+use crate::seat::{Draw, Enter, Finish, Numbers, OnePart, Seat, Together, View};
 use atomic_table::{Shared, Table};
 use std::alloc::{AllocError, Global};
 use std::marker::Model;
@@ -242,5 +240,44 @@ impl<R: Numbered> Ledger<R> {
         Ok(Closed {
             entries: take_entries_and_free_table(closed, room),
         })
+    }
+}
+
+/// Why a number may not be ended by a seat.
+#[derive(Clone, Copy, Debug, PartialEq, Eq, Drop)]
+pub enum LedgerFault {
+    /// The seat never drew the number.
+    NotYours,
+    /// The seat drew the number, and has ended it.
+    Twice,
+}
+
+impl LedgerFault {
+    /// The word for the fault.
+    pub fn name(&self) -> &'static str
+        ensures { result.now ≡ ledger_fault_name self.now }
+    {
+        match self {
+            LedgerFault::NotYours => "NotYours",
+            LedgerFault::Twice => "Twice",
+        }
+    }
+}
+
+/// Why a ledger was not closed.
+#[derive(Clone, Copy, Debug, PartialEq, Eq, Drop)]
+pub enum CloseFault {
+    /// Some seat of the ledger was not handed in.
+    MissingSeat,
+}
+
+impl CloseFault {
+    /// The word for the fault.
+    pub fn name(&self) -> &'static str
+        ensures { result.now ≡ close_fault_name self.now }
+    {
+        match self {
+            CloseFault::MissingSeat => "MissingSeat",
+        }
     }
 }

@@ -4,19 +4,11 @@
 #![tactic(auto)]
 
 mod book;
-mod calls;
-mod closed;
 mod entry;
-mod fault;
 mod ledger;
-mod rule;
 mod seat;
-mod spot;
 
-pub use book::Book;
-pub use calls::{BookCall, BookReply, make_calls_and_add_replies};
-pub use closed::Closed;
-pub use entry::{Cause, Entry, Numbered};
-pub use fault::{CloseFault, LedgerFault};
-pub use ledger::Ledger;
+pub use book::{Book, BookCall, BookReply, make_calls_and_add_replies};
+pub use entry::{Cause, Closed, Entry, Numbered};
+pub use ledger::{CloseFault, Ledger, LedgerFault};
 pub use seat::Seat;

@@ -9,9 +9,9 @@ use Rattle.pst_value.specs.declared.key.Key.{Key}
 use Rattle.pst_value.specs.declared.key.Key.TheVariants as key
 use Rattle.pst_value.specs.declared.value.Value.{Value, fold-Value}
 use Rattle.pst_value.specs.declared.value.Value.TheOpen.{Value-F}
-use Rattle.pst_machine.specs.declared.instruction.Instr.{Instr}
-use Rattle.pst_machine.specs.declared.instruction.Instr.TheVariants.{Const, Move, Take, Unary, Binary, Put, At, Tuple, List as MakeList, Call, Append, Jump, Unless, Apply, Loop, Return}
-use Rattle.pst_machine.specs.declared.instruction.FunCode.{FunCode}
+use Rattle.pst_machine.specs.declared.code.Instr.{Instr}
+use Rattle.pst_machine.specs.declared.code.Instr.TheVariants.{Const, Move, Take, Unary, Binary, Put, At, Tuple, List as MakeList, Call, Append, Jump, Unless, Apply, Loop, Return}
+use Rattle.pst_machine.specs.declared.code.FunCode.{FunCode}
 
 -- ---- values, as items spell them
 

@@ -7,16 +7,13 @@
 
 mod brief;
 mod cells;
-mod check;
 mod code;
 mod in_place;
-mod instruction;
 mod listing;
 mod machine;
 mod quick;
 mod registers;
 mod run;
 
-pub use code::Code;
-pub use instruction::{FunCode, Instr};
+pub use code::{Code, FunCode, Instr};
 pub use run::Outcome;

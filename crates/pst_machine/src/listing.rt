@@ -1,10 +1,9 @@
 //! The text of code.
-
 ghost use Rattle.std.specs.Prelude.{◌≡◌, ◌∷◌, [], ◌++◌, map, IfOk, OnOk, decimal};
 ghost use Rattle.std.specs.Fmt.{signed_decimal};
 ghost use Rattle.pst_machine.specs.Listing as spec;
 
-use crate::instruction::{FunCode, Instr};
+use crate::code::{FunCode, Instr};
 use pst_model::{Binary, Unary};
 use pst_value::{Items, Key, Value};
 use std::alloc::{AllocError, Global};

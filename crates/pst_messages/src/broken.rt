@@ -1,6 +1,6 @@
 //! Why recorded runs are broken.
 
-use crate::item_input::ItemInput;
+use crate::json_input::ItemInput;
 use pst_explain::broken_reply_sentence_of_run;
 use pst_judge::{Judged, Verdict};
 use pst_model::Typed;

@@ -1,4 +1,4 @@
-//! The messages on inputs with JSON items.
+//! Inputs whose items may be JSON, and the messages on them.
 
 use crate::bytes::ByteFault;
 use crate::json_item::{json_item_fault, json_span_at_or_around_tree_path};
@@ -6,9 +6,47 @@ use crate::message::{MessageScope, errors_of_input_without_json_items};
 use pst_json_runs::{begins_like_json_item, replace_json_lines_by_trees};
 use pst_model::{Source, Typed};
 use pst_sexpr::{Form, MAX_BYTES};
-use pst_sources::{Input, Notice, Notices, SourceFile, Span};
+use pst_sources::{
+    Input, Notice, Notices, SourceFile, Span, joined_text_of_files, notice_text,
+    span_at_path_or_whole_input,
+};
 use pst_typing::load;
 use std::alloc::{AllocError, Global};
+
+/// An input of items, as it was read and with a tree in place of each JSON item.
+#[derive(Clone, Copy, Drop)]
+pub struct ItemInput<'a> {
+    /// The input with a tree in place of each JSON item.
+    pub trees: Input<'a>,
+    /// The files as they were read.
+    pub read: &'a [SourceFile<'a>],
+}
+
+impl ItemInput<'_> {
+    /// The text of `notice`, a notice on the part at `path` of the item `tree`. It shows the part as it was read. The
+    /// path begins with the number of the item.
+    pub fn notice_text_on_part_as_read(
+        &self,
+        alloc: Global,
+        tree: &Form,
+        path: &[usize],
+        notice: Notice,
+    ) -> Result<String, AllocError> {
+        let text = joined_text_of_files(alloc, self.read)?;
+        let read = Input {
+            files: self.read,
+            bytes: text.as_slice(),
+        };
+        let span = translate_span_to_json_text(
+            read.bytes,
+            self.trees.bytes,
+            tree,
+            path.get(1..).unwrap_or(&[]),
+            span_at_path_or_whole_input(self.trees.bytes, path),
+        );
+        notice_text(alloc, &read, &Notice { span, ..notice })
+    }
+}
 
 /// The line that begins at `place`, without its end.
 fn json_text_line_starting_at(text: &[u8], place: usize) -> &[u8] {
@@ -69,7 +107,7 @@ impl JsonAndTreeLineStart {
 /// The bytes of a part of the item `tree` in `json`, a text with JSON items, if the part is at `span` in `trees`, the text
 /// with a tree in place of each of them. `path` leads to the part. In a JSON item the bytes may be those of an array
 /// around the part. The span may be empty if a text is not the one that is meant.
-pub fn translate_span_to_json_text(
+fn translate_span_to_json_text(
     json: &[u8],
     trees: &[u8],
     tree: &Form,

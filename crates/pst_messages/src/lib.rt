@@ -8,29 +8,25 @@
 //! `AllocError` means that an allocation failed.
 #![tactic(auto)]
 
-mod asking;
 mod bounded;
 mod broken;
 mod bytes;
-mod failing;
 mod faults;
 mod item_hints;
-mod item_input;
 mod json_fault;
 mod json_input;
 mod json_item;
 mod json_places;
 mod message;
-mod places;
 mod preconditions;
 mod scripts;
 mod spelling;
+mod untrue_precondition;
 mod warning;
 
 pub use broken::{first_broken_item_result_and_count_message, first_broken_run_and_count_message};
 pub use faults::explanation_why_trial_has_no_case;
-pub use item_input::ItemInput;
-pub use json_input::{files_with_json_as_trees, find_first_line_like_json_item};
+pub use json_input::{ItemInput, files_with_json_as_trees, find_first_line_like_json_item};
 pub use message::{
     MessageScope, has_model_at_start, input_error_messages_text, input_error_notices,
 };

@@ -2,13 +2,12 @@
 ghost use Rattle.std.specs.Prelude.{◌≡◌, All};
 ghost use Rattle.pst_runs.specs.Lawful.{AreLawful, IsLawful};
 
-use crate::failing::{
+use crate::json_input::ItemInput;
+use crate::spelling::{LocatedCommand, locate_and_spell_command, shortened_value_text};
+use crate::untrue_precondition::{
     FalsePreconditionCommand, does_case_call_marked_operation,
     first_untrue_precondition_if_results_known, which_operations_have_preconditions,
 };
-use crate::item_input::ItemInput;
-use crate::places::{LocatedCommand, locate_and_spell_command};
-use crate::spelling::shortened_value_text;
 use crate::warning::warning_notice;
 use pst_case::Run;
 use pst_eval::Callbacks;

@@ -11,8 +11,8 @@ use Rattle.pst_model.specs.declared.expr.Expr as expr
 use Rattle.pst_model.specs.declared.expr.Clause.{Clause}
 use Rattle.pst_model.specs.declared.expr.Clause as clause
 use Rattle.pst_syntax.specs.declared.fault.FaultKind.TheVariants.{UnknownForm, OverLimit}
-use Rattle.pst_syntax.specs.declared.heads.Head.{Head}
-use Rattle.pst_syntax.specs.declared.heads.Head.TheVariants as head
+use Rattle.pst_syntax.specs.declared.words.Head.{Head}
+use Rattle.pst_syntax.specs.declared.words.Head.TheVariants as head
 use Rattle.pst_syntax.specs.Heads.{head_of}
 use Rattle.pst_sexpr.specs.Integers.{is_integer, value}
 use Rattle.pst_value.specs.Text.{is_i64}

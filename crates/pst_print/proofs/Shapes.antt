@@ -8,8 +8,8 @@ use Rattle.pst_sexpr.specs.declared.form.Form.{Form, Form-F, out-Form, roll-Form
 use Rattle.pst_sexpr.specs.declared.form.Form.TheVariants.{Word, Text, Node, rolls-Word, rolls-Text, rolls-Node}
 use Rattle.pst_value.specs.declared.key.KeyTy.{KeyTy}
 use Rattle.pst_value.specs.declared.key.KeyTy.TheVariants as kind
-use Rattle.pst_syntax.specs.declared.heads.Head.{Head}
-use Rattle.pst_syntax.specs.declared.heads.Head.TheVariants as head
+use Rattle.pst_syntax.specs.declared.words.Head.{Head}
+use Rattle.pst_syntax.specs.declared.words.Head.TheVariants as head
 use Rattle.pst_syntax.specs.Heads.{head_of, look_up, or_of_maps, rows, map_rows}
 use Rattle.pst_syntax.specs.Names.{is_used}
 use Rattle.pst_sexpr.specs.Integers.{is_integer}

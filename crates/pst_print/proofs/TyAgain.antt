@@ -8,8 +8,8 @@ use Rattle.pst_sexpr.specs.declared.form.Form.TheVariants.{Word, Node, rolls-Wor
 use Rattle.pst_value.specs.declared.ty.Ty.{Ty}
 use Rattle.pst_value.specs.declared.ty.Ty as ty
 use Rattle.pst_syntax.specs.declared.fault.FaultKind.TheVariants.{OverLimit}
-use Rattle.pst_syntax.specs.declared.heads.Head.{Head}
-use Rattle.pst_syntax.specs.declared.heads.Head.TheVariants as head
+use Rattle.pst_syntax.specs.declared.words.Head.{Head}
+use Rattle.pst_syntax.specs.declared.words.Head.TheVariants as head
 use Rattle.pst_syntax.specs.Heads.{head_of}
 use Rattle.pst_syntax.specs.Names.{is_short}
 use Rattle.pst_syntax.specs.Shape.{TyShape, IntType, BoolType, TextType, CallType, TupleType, ListType, MapType, RefType, ty_shape, ty_at, ty_node, ty_headed, some_of, key_shape}

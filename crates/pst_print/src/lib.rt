@@ -2,18 +2,13 @@
 #![tactic(auto)]
 
 mod expressions;
-mod items;
 mod layout;
 mod measure;
-mod nodes;
+mod parts;
 mod printer;
-mod respelled;
 mod style;
 mod tokens;
-mod types;
-mod words;
 
-pub use expressions::expr_form;
+pub use expressions::{expr_form, ty_form};
+pub use layout::format_file;
 pub use printer::print_model;
-pub use respelled::format_file;
-pub use types::ty_form;

@@ -4,7 +4,7 @@ use Rattle.std.specs.List.{All, list_any}
 use Rattle.pst_case.specs.declared.case.Case.{Case}
 use Rattle.pst_case.specs.declared.history.History.{History}
 use Rattle.pst_eval.specs.Callbacks.{post_of}
-use Rattle.pst_grid.specs.declared.answer.Ending.TheVariants.{AllTrue}
+use Rattle.pst_grid.specs.declared.steps.Ending.TheVariants.{AllTrue}
 use Rattle.pst_judge.specs.Replay.{Asking, event_at, prefix_events, branch_events, suffix_events}
 use Rattle.pst_judge.specs.Verdict.{EndsAsking}
 use Rattle.pst_judge.specs.declared.events.Event.{Event}

@@ -4,7 +4,7 @@ use Rattle.pst_case.specs.Shape.{before_suffix}
 use Rattle.pst_case.specs.declared.case.Case.{Case}
 use Rattle.pst_case.specs.declared.history.History.{History}
 use Rattle.pst_grid.specs.Merges.{IsMerge, IsLeast}
-use Rattle.pst_grid.specs.declared.answer.Ending.TheVariants.{AllTrue}
+use Rattle.pst_grid.specs.declared.steps.Ending.TheVariants.{AllTrue}
 use Rattle.pst_judge.specs.Replay.{Asking, post_asked, replayed, replayed_asking, branch_lengths}
 use Rattle.pst_model.specs.declared.model.Source.{Source}
 use Rattle.pst_operators.specs.Outcome.{Outcome, Gives}

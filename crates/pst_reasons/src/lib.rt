@@ -6,20 +6,18 @@
 
 mod allowing;
 mod answers;
-mod asked;
-mod asked_instead;
+mod conditions;
 mod cores;
 mod laws;
-mod numbers;
 mod recorded;
-mod searching;
 mod state_list;
 
-pub use allowing::{AllowedValues, AnswerProposer, find_allowed_values};
-pub use asked::SomePostconditions;
-pub use cores::minimal_core;
+pub use allowing::{
+    AllowedValues, AnswerProposer, AnswerQuestion, find_allowed_values,
+    interleaving_where_answers_are_wrong, is_answer_allowed,
+};
+pub use conditions::SomePostconditions;
+pub use cores::{append_numbers_without, count_branch_commands, minimal_core};
 pub use laws::equality_has_one_answer;
-pub use numbers::{append_numbers_without, count_branch_commands};
 pub use recorded::RecordedRun;
-pub use searching::{AnswerQuestion, interleaving_where_answers_are_wrong, is_answer_allowed};
 pub use state_list::states;

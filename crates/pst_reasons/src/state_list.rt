@@ -9,7 +9,7 @@ ghost use Rattle.pst_reasons.specs.States.{AllFit, OnLast, branch_states, event_
 ghost use Rattle.pst_value.specs.declared.ty.Ty.{Ty};
 ghost use Rattle.pst_value.specs.declared.value.Value.{Value};
 
-use crate::numbers::count_branch_commands;
+use crate::cores::count_branch_commands;
 use crate::recorded::RecordedRun;
 use pst_eval::Callbacks;
 use pst_grid::StepOutcome;

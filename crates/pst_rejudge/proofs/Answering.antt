@@ -8,9 +8,9 @@ use Rattle.pst_json_runs.specs.Lines.{has_json, line_form}
 use Rattle.pst_model.specs.declared.model.Source.{Source}
 use Rattle.pst_rejudge.specs.Answers.{IsAnswer}
 use Rattle.pst_rejudge.specs.StreamAnswers.{IsLineAnswer, item, no_item, IsTreeAnswer, tree_item, no_tree, IsTreeFile, SpellsItem, tree, json}
-use Rattle.pst_rejudge.specs.declared.each.ItemResult.{ItemResult}
-use Rattle.pst_rejudge.specs.declared.each.ItemResult.TheVariants.{Refused}
-use Rattle.pst_runs.specs.declared.fault.RunFaultKind.TheVariants.{BadForm}
+use Rattle.pst_rejudge.specs.declared.reading.ItemResult.{ItemResult}
+use Rattle.pst_rejudge.specs.declared.reading.ItemResult.TheVariants.{Refused}
+use Rattle.pst_runs.specs.declared.reader.RunFaultKind.TheVariants.{BadForm}
 use Rattle.pst_sexpr.specs.Reading.{max_bytes, Spells}
 use Rattle.pst_sexpr.specs.declared.form.Form.{Form}
 

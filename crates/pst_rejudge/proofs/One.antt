@@ -10,8 +10,8 @@ use Rattle.pst_rejudge.specs.Judging.{MayBeJudged}
 use Rattle.pst_runs.specs.Items.{item_of, numbered, runs_of}
 use Rattle.pst_runs.specs.Lawful.{IsLawful, AreLawful}
 use Rattle.pst_runs.specs.Replies.{◌>>=◌, then_more}
-use Rattle.pst_runs.specs.declared.fault.ItemFault.{ItemFault}
-use Rattle.pst_runs.specs.declared.fault.RunFault.{RunFault}
+use Rattle.pst_runs.specs.declared.reader.ItemFault.{ItemFault}
+use Rattle.pst_runs.specs.declared.reader.RunFault.{RunFault}
 use Rattle.pst_sexpr.specs.declared.form.Form.{Form}
 
 -- the last of a list of one

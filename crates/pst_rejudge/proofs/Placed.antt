@@ -9,9 +9,9 @@ use Rattle.pst_rejudge.proofs.Pushed.{bytes_of, of_bytes}
 use Rattle.pst_rejudge.proofs.Together.{spelled_in_parts}
 use Rattle.pst_rejudge.specs.Parts.{AreParts, SpellsRuns, AreKept, IsJudgedPart, joined}
 use Rattle.pst_rejudge.specs.Places.{StandsIn, AreFilled, HoldsPart, runs_in, judged_in}
-use Rattle.pst_rejudge.specs.declared.judging.JudgedParts.{JudgedParts}
-use Rattle.pst_rejudge.specs.declared.judging.JudgedRuns.{JudgedRuns}
-use Rattle.pst_rejudge.specs.declared.taking.JudgedPart.{JudgedPart}
+use Rattle.pst_rejudge.specs.declared.parts.JudgedParts.{JudgedParts}
+use Rattle.pst_rejudge.specs.declared.parts.JudgedRuns.{JudgedRuns}
+use Rattle.pst_rejudge.specs.declared.parts.JudgedPart.{JudgedPart}
 use Rattle.pst_judge.specs.Judgement.{IsJudgement}
 use Rattle.pst_judge.specs.declared.judgement.Judged.{Judged}
 use Rattle.pst_model.specs.declared.model.Source.{Source}

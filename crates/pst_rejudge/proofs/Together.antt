@@ -7,8 +7,8 @@ use Rattle.pst_rejudge.proofs.Joined.{joined}
 use Rattle.pst_rejudge.specs.Parts.{EndsLine, AreParts, last, before, SpellsRuns}
 use Rattle.pst_runs.specs.Items.{item_of, numbered, runs_from}
 use Rattle.pst_runs.specs.Replies.{◌>>=◌, then_more}
-use Rattle.pst_runs.specs.declared.fault.ItemFault.{ItemFault}
-use Rattle.pst_runs.specs.declared.fault.RunFault.{RunFault}
+use Rattle.pst_runs.specs.declared.reader.ItemFault.{ItemFault}
+use Rattle.pst_runs.specs.declared.reader.RunFault.{RunFault}
 use Rattle.pst_sexpr.specs.declared.form.Form.{Form}
 
 module _ (m : Source) where

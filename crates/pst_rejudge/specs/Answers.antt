@@ -3,8 +3,8 @@ use Rattle.std.specs.Prelude.{◌≡◌, Ok, Err}
 use Rattle.pst_case.specs.declared.history.Run.{Run}
 use Rattle.pst_judge.specs.Judgement.{IsJudgement}
 use Rattle.pst_model.specs.declared.model.Source.{Source}
-use Rattle.pst_rejudge.specs.declared.each.ItemResult.{ItemResult}
-use Rattle.pst_rejudge.specs.declared.each.ItemResult.TheVariants.{Judged, Refused}
+use Rattle.pst_rejudge.specs.declared.reading.ItemResult.{ItemResult}
+use Rattle.pst_rejudge.specs.declared.reading.ItemResult.TheVariants.{Judged, Refused}
 use Rattle.pst_runs.specs.Items.{item_of}
 use Rattle.pst_sexpr.specs.declared.form.Form.{Form}
 

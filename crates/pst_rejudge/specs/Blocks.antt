@@ -2,7 +2,7 @@
 use Rattle.std.specs.Prelude.{◌≡◌, ℕ, suc, Bool, true, false, List, Option, take}
 use Rattle.std.specs.Io.KnownBytes.{Consumes, IsAtEnd}
 use Rattle.std.specs.List.{AllZip}
-use Rattle.pst_rejudge.specs.declared.each.ItemResult.{ItemResult}
+use Rattle.pst_rejudge.specs.declared.reading.ItemResult.{ItemResult}
 use Rattle.pst_model.specs.declared.model.Source.{Source}
 use Rattle.pst_sexpr.specs.Reading.{max_bytes}
 use Rattle.pst_rejudge.specs.StreamAnswers.{IsLineAnswer}

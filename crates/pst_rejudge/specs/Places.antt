@@ -4,8 +4,8 @@ use Rattle.std.specs.Borrow.{Bor}
 use Rattle.std.specs.List.{AllZip}
 use Rattle.pst_case.specs.declared.history.Run.{Run}
 use Rattle.pst_rejudge.specs.Parts.{IsJudgedPart}
-use Rattle.pst_rejudge.specs.declared.judging.JudgedRuns.{JudgedRuns}
-use Rattle.pst_rejudge.specs.declared.taking.JudgedPart.{JudgedPart}
+use Rattle.pst_rejudge.specs.declared.parts.JudgedRuns.{JudgedRuns}
+use Rattle.pst_rejudge.specs.declared.parts.JudgedPart.{JudgedPart}
 use Rattle.pst_judge.specs.declared.judgement.Judged.{Judged}
 use Rattle.pst_model.specs.declared.model.Source.{Source}
 

@@ -1,21 +1,21 @@
 -- The members of the objects of verdicts and refusals.
 use Rattle.std.specs.Prelude.{ℕ, List, [], ◌∷◌, ◌++◌, codes}
 use Rattle.pst_eval.specs.Places.{callback_name}
-use Rattle.pst_eval.specs.declared.place.FaultPlace.{FaultPlace}
+use Rattle.pst_eval.specs.declared.callbacks.FaultPlace.{FaultPlace}
 use Rattle.pst_rejudge.specs.declared.field.Field.{Field}
 use Rattle.pst_rejudge.specs.declared.field.Field.TheVariants.{Number, Words}
 use Rattle.pst_rejudge.specs.declared.field.FieldName.TheVariants as name
 use Rattle.pst_judge.specs.VerdictText.{word_text}
 use Rattle.pst_judge.specs.declared.judgement.Judged.{Judged}
 use Rattle.pst_judge.specs.declared.judgement.Judged.TheVariants as judged
-use Rattle.pst_judge.specs.declared.verdicts.Verdict.TheVariants.{Explained, Faulted, Unexplained, Broken}
-use Rattle.pst_judge.specs.declared.why.Why.TheVariants.{PreFalse, CallbackFault, NoMemory}
+use Rattle.pst_judge.specs.declared.judgement.Verdict.TheVariants.{Explained, Faulted, Unexplained, Broken}
+use Rattle.pst_judge.specs.declared.validated.Why.TheVariants.{PreFalse, CallbackFault, NoMemory}
 use Rattle.pst_runs.specs.FaultName as runs
-use Rattle.pst_runs.specs.declared.fault.RunFaultKind.{RunFaultKind}
+use Rattle.pst_runs.specs.declared.reader.RunFaultKind.{RunFaultKind}
 use Rattle.pst_sexpr.specs.Fault as sexpr
 use Rattle.pst_syntax.specs.FaultName as syntax
-use Rattle.pst_typing.specs.declared.load_refusal.Refusal.{Refusal}
-use Rattle.pst_typing.specs.declared.load_refusal.Refusal.TheVariants.{Unread, NoModel, IllTyped}
+use Rattle.pst_typing.specs.declared.loading.Refusal.{Refusal}
+use Rattle.pst_typing.specs.declared.loading.Refusal.TheVariants.{Unread, NoModel, IllTyped}
 use Rattle.pst_value.specs.FaultName.{fault_name}
 
 -- ---- verdicts

@@ -1,8 +1,14 @@
-//! Members of JSON objects.
-ghost use Rattle.std.specs.Prelude.{◌≡◌};
-ghost use Rattle.pst_rejudge.specs.Objects.{name_text};
+//! Members of JSON objects: their names, and functions that add them and write objects on lines.
+ghost use Rattle.std.specs.Prelude.{◌≡◌, [], ◌∷◌, ◌++◌, OnOk, Some, IfOk};
+ghost use Rattle.pst_rejudge.specs.Objects.{name_text, field_json, field_name, members_of, object_line, object_of, object_text, texts_of};
+ghost use Rattle.pst_rejudge.specs.declared.field.Field.TheVariants as spec;
+ghost use Rattle.json.specs.Json.{document};
+ghost use Rattle.json.specs.Token.{key};
+ghost use Rattle.json.specs.Tree.{items_tokens, json_tokens, members_tokens};
 
+use json::Writer;
 use pst_value::Text;
+use std::alloc::{AllocError, Global};
 
 /// The name of a member.
 #[derive(Clone, Copy, Debug, PartialEq, Eq, Drop)]
@@ -163,4 +169,95 @@ pub enum Field {
     Words(FieldName, Text),
     /// A member that is an array of texts.
     Lines(FieldName, Vec<Text>),
+}
+
+/// Adds a member that is a text.
+pub fn add_text_field(
+    alloc: Global,
+    fields: &mut Vec<Field>,
+    name: FieldName,
+    words: &str,
+) -> Result<(), AllocError>
+    ensures { OnOk result (fields.new.items ≡ fields.old.items ++ spec.Words name words.now ∷ []) }
+{
+    let words = Text::from_string(String::from_str(alloc, words)?);
+    fields.push(Field::Words(name, words))?;
+    Ok(())
+}
+
+/// Adds a member that is a number.
+pub fn add_number_field(
+    fields: &mut Vec<Field>,
+    name: FieldName,
+    number: u64,
+) -> Result<(), AllocError>
+    ensures { OnOk result (fields.new.items ≡ fields.old.items ++ spec.Number name number ∷ []) }
+{
+    fields.push(Field::Number(name, number))?;
+    Ok(())
+}
+
+/// Writes texts, and the end of their array.
+fn write_json_texts_and_end_array(
+    writer: &mut Writer<Global>,
+    texts: &[Text],
+) -> Result<(), AllocError>
+    ensures ok { OnOk result (writer.new.tokens ≡ writer.old.tokens ++ items_tokens (texts_of texts.now)) }
+    ensures before { writer.new.before ≡ writer.old.before }
+{
+    for text in texts {
+        writer.string(text.as_str())?;
+    }
+    writer.end_array()
+}
+
+/// Writes a member.
+fn write_json_field(writer: &mut Writer<Global>, field: &Field) -> Result<(), AllocError>
+    ensures ok { OnOk result (writer.new.tokens
+        ≡ writer.old.tokens ++ key (field_name field.now) ∷ json_tokens (field_json field.now)) }
+    ensures before { writer.new.before ≡ writer.old.before }
+{
+    match field {
+        Field::Number(name, number) => {
+            writer.key(name.text())?;
+            writer.u64(*number)
+        }
+        Field::Words(name, words) => {
+            writer.key(name.text())?;
+            writer.string(words.as_str())
+        }
+        Field::Lines(name, lines) => {
+            writer.key(name.text())?;
+            writer.begin_array()?;
+            write_json_texts_and_end_array(writer, lines.as_slice())
+        }
+    }
+}
+
+/// Writes members, and the end of their object.
+fn write_json_fields_and_end_object(
+    writer: &mut Writer<Global>,
+    fields: &[Field],
+) -> Result<(), AllocError>
+    ensures ok { OnOk result (writer.new.tokens
+        ≡ writer.old.tokens ++ members_tokens (members_of fields.now)) }
+    ensures before { writer.new.before ≡ writer.old.before }
+{
+    for field in fields {
+        write_json_field(writer, field)?;
+    }
+    writer.end_object()
+}
+
+/// Returns the object with these members, in their order, and a line end. Read as JSON, the line is this object.
+pub fn json_object_line(alloc: Global, fields: &[Field]) -> Result<Vec<u8>, AllocError>
+    ensures line { IfOk result (λ line. line.items ≡ object_line fields.now) }
+    ensures reads_back { OnOk result (document (object_text fields.now) ≡ Some (object_of fields.now)) }
+{
+    let mut writer = Writer::new(Vec::new(alloc));
+    writer.begin_object()?;
+    write_json_fields_and_end_object(&mut writer, fields)?;
+    let mut line = writer.into_inner();
+    line.push(b'\n')?;
+    Ok(line)
 }

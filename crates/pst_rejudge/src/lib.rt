@@ -8,45 +8,33 @@ ghost use Rattle.std.specs.List.{AllZip};
 ghost use Rattle.pst_judge.specs.Judgement.{IsJudgement};
 ghost use Rattle.pst_rejudge.specs.Judging.{MayBeJudged};
 
-mod add;
-mod blocks;
-mod each;
 mod field;
-mod judgement;
-mod judging;
-mod keeping;
 mod laws;
-mod merge;
-mod object;
 mod parts;
-mod places;
 mod reading;
-mod refusal;
 mod sharing;
 mod steps;
 mod stream_judging;
 mod stream_reading;
-mod taking;
+mod verdict_fields;
 
 use crate::sharing::prove_runs_are_sync;
-pub use add::{add_number_field, add_text_field};
-pub use blocks::{Block, StreamFault, read_once_and_judge_ended_lines};
-pub use each::{ItemResult, read_and_judge_each_tree, read_and_judge_tree};
-pub use field::{Field, FieldName};
-pub use judgement::{judged_item_fields, refused_item_fields};
-pub use judging::{JudgedParts, read_and_judge_in_parts};
+pub use field::{Field, FieldName, add_number_field, add_text_field, json_object_line};
 pub use laws::stream_lines_are_judged_as_items;
-pub use object::json_object_line;
-pub use parts::split_before_second_bracket_line;
+pub use parts::{JudgedParts, read_and_judge_in_parts, split_before_second_bracket_line};
 use pst_case::Run;
 use pst_eval::Callbacks;
 use pst_judge::{Judged, judge_one};
 use rayon::prelude::*;
-pub use refusal::{accepted_model_fields, refused_model_fields};
+pub use reading::{ItemResult, read_and_judge_each_tree, read_and_judge_tree};
 pub use sharing::prove_models_are_sync;
 use std::alloc::{AllocError, Global};
 use std::thread::Threads;
 pub use steps::ProgressCounter;
+pub use stream_reading::{Block, StreamFault, read_once_and_judge_ended_lines};
+pub use verdict_fields::{
+    accepted_model_fields, judged_item_fields, refused_item_fields, refused_model_fields,
+};
 
 /// Judges an item, and counts it in `steps`.
 fn judge_run_with_progress<C: Callbacks>(

@@ -1,8 +1,262 @@
-//! Splits an input into parts. Each but the last ends with a line.
-ghost use Rattle.std.specs.Prelude.{◌≡◌, ◌≤◌, ◌<◌, ◌++◌, map, length, take, IfOk, IfSome};
-ghost use Rattle.pst_rejudge.specs.Parts.{EndsLine, AreParts};
+//! Reads and judges the items of an input in parts: splits it, has several threads take the parts, and puts them
+//! in their order.
+//!
+//! Each part but the last ends with a line. Each thread takes the next part that none has taken, so that a part that
+//! takes long holds up one thread alone.
+ghost use Rattle.std.specs.Prelude.{◌≡◌, All, IfOk, IfSome, ℕ, Bool, List, ◌≤◌, ◌<◌, ◌++◌, map, length, take};
+ghost use Rattle.pst_rejudge.specs.Parts.{IsJudgedPart, joined, EndsLine, AreParts};
+ghost use Rattle.pst_rejudge.specs.Places.{StandsIn, HoldsPart, AreFilled, runs_in, judged_in};
+ghost use Rattle.std.specs.List.{AllZip, flat_map};
+ghost use Rattle.pst_judge.specs.Judgement.{IsJudgement};
+ghost use Rattle.pst_rejudge.specs.Judging.{MayBeJudged};
+ghost use Rattle.std.specs.Option.{IsSome};
+ghost use Rattle.pst_model.specs.declared.model.Source.{Source};
+ghost use Rattle.std.specs.Borrow.{Bor};
 
+use crate::reading::{PartFault, read_runs_of_part};
+use crate::sharing::{prove_judged_parts_are_send, prove_models_are_sync};
+use crate::steps::ProgressCounter;
+use pst_case::Run;
+use pst_eval::Callbacks;
+use pst_judge::{Judged, judge_one};
+use pst_model::Typed;
+use rayon::prelude::*;
 use std::alloc::{AllocError, Global};
+use std::sync::atomic::{AtomicUsize, Ordering};
+use std::thread::Threads;
+
+/// The runs of one part of an input, and the judgement on each.
+#[derive(Drop)]
+pub(crate) struct JudgedRuns {
+    /// The runs.
+    pub runs: Vec<Run>,
+    /// Their judgements, in the same order.
+    pub judged: Vec<Judged>,
+}
+
+/// The runs of an input, in the parts in which it was read, and the judgement on each.
+#[derive(Drop)]
+pub struct JudgedParts {
+    /// The runs of each part, in the order of the parts.
+    pub runs: Vec<Vec<Run>>,
+    /// The judgement on each run, in the order of the runs.
+    pub judged: Vec<Judged>,
+}
+
+/// How many worker tasks start; late ones find no work.
+const OFFERS: usize = 64;
+
+/// Returns the runs of the items that an input spells, all of them trees of runs, and the judgements on them.
+/// It reads and judges the input in parts, several at once, and drops the trees of a part once its runs are
+/// read. The runs stay in these parts, and the judgements are one list. If `keeps` is false, each part's runs
+/// are dropped once they are judged, and all lists of runs are empty. `steps` counts the items that are judged.
+///
+/// `None`: some part is not read by itself, which implies nothing for the whole input. `AllocError`: an
+/// allocation failed, even while reading or judging parts.
+///
+/// `typed` is the model of the callbacks.
+pub fn read_and_judge_in_parts<C: Callbacks + Sync, R: Threads + Sync>(
+    rt: &R,
+    callbacks: &C,
+    alloc: Global,
+    typed: &Typed,
+    input: &[u8],
+    keeps: bool,
+    steps: &ProgressCounter,
+) -> Result<Option<JudgedParts>, AllocError>
+    requires { typed.now ≡ C.model callbacks.now }
+    ensures { IfOk result (λ read. IfSome read
+        (λ parts. IsJudgedPart typed.now keeps input.now (joined parts.runs.items) parts.judged.items)) }
+{
+    prove_models_are_sync();
+    prove_judged_parts_are_send();
+    let parts = split_input_into_parts(alloc, input)?;
+    let next = AtomicUsize::new(0);
+    let offers = [0u8; OFFERS];
+    let taken = offers
+        .par_iter()
+        .with_min_len(1)
+        .map(
+            |_: &u8| -> Result<Vec<JudgedPart>, PartFault>
+                requires { typed.now ≡ C.model callbacks.now }
+                ensures { IfOk result (λ taken. All (StandsIn (C.model callbacks.entry.now) keeps parts.entry.items) taken.items) }
+            {
+                take_and_judge_remaining_parts(
+                    callbacks,
+                    alloc,
+                    typed,
+                    parts.as_slice(),
+                    keeps,
+                    &next,
+                    steps,
+                )
+            },
+        )
+        .collect::<Result<Vec<Vec<JudgedPart>>, PartFault>>(rt, alloc)?;
+    match taken {
+        Ok(lists) => {
+            let places = put_judged_parts_in_order(alloc, parts.as_slice(), lists)?;
+            join_places_unless_one_is_empty(alloc, places)
+        }
+        Err(PartFault::NotRead) => Ok(None),
+        Err(PartFault::NoMemory) => Err(AllocError),
+    }
+}
+
+/// A part of an input.
+#[derive(Drop)]
+pub(crate) struct JudgedPart {
+    /// Its place among the parts, from 0.
+    pub place: usize,
+    /// The runs that it spells, and the judgements on them.
+    pub content: JudgedRuns,
+}
+
+/// The judgement on each run. `steps` counts the runs.
+fn judge_runs_of_part<C: Callbacks>(
+    callbacks: &C,
+    alloc: Global,
+    runs: &[Run],
+    steps: &ProgressCounter,
+) -> Result<Vec<Judged>, AllocError>
+    requires { All (MayBeJudged (C.model callbacks.now)) runs.now }
+    ensures { IfOk result (λ all. AllZip (IsJudgement (C.model callbacks.now)) runs.now all.items) }
+{
+    let mut judged = Vec::with_capacity(alloc, runs.len())?;
+    for run in runs {
+        judged.push(judge_one(callbacks, alloc, run)?)?;
+        steps.add(1);
+    }
+    Ok(judged)
+}
+
+/// The judgements on the runs that the bytes of a part spell, with the runs if `keeps` is true.
+fn read_and_judge_part<C: Callbacks>(
+    callbacks: &C,
+    alloc: Global,
+    typed: &Typed,
+    bytes: &[u8],
+    keeps: bool,
+    steps: &ProgressCounter,
+) -> Result<JudgedRuns, PartFault>
+    requires { typed.now ≡ C.model callbacks.now }
+    ensures { IfOk result (HoldsPart (C.model callbacks.now) keeps bytes.now) }
+{
+    let runs = read_runs_of_part(alloc, typed, bytes)?;
+    let judged = judge_runs_of_part(callbacks, alloc, runs.as_slice(), steps)?;
+    Ok(JudgedRuns {
+        runs: if keeps { runs } else { Vec::new(alloc) },
+        judged,
+    })
+}
+
+/// Reads and judges one part after another until none is left. No other thread takes these parts.
+fn take_and_judge_remaining_parts<C: Callbacks>(
+    callbacks: &C,
+    alloc: Global,
+    typed: &Typed,
+    parts: &[&[u8]],
+    keeps: bool,
+    next: &AtomicUsize,
+    steps: &ProgressCounter,
+) -> Result<Vec<JudgedPart>, PartFault>
+    requires { typed.now ≡ C.model callbacks.now }
+    ensures { IfOk result (λ taken. All (StandsIn (C.model callbacks.now) keeps parts.now) taken.items) }
+{
+    let mut taken = Vec::new(alloc);
+    for _ in 0..parts.len() {
+        let place = next.fetch_add(1, Ordering::Relaxed);
+        let Some(bytes) = parts.get(place) else {
+            return Ok(taken);
+        };
+        let content = read_and_judge_part(callbacks, alloc, typed, bytes, keeps, steps)?;
+        if taken.push(JudgedPart { place, content }).is_err() {
+            return Err(PartFault::NoMemory);
+        }
+    }
+    Ok(taken)
+}
+
+/// An empty place for each part.
+fn empty_places_for_parts(
+    alloc: Global,
+    parts: &[&[u8]],
+) -> Result<Vec<Option<JudgedRuns>>, AllocError>
+    ensures { IfOk result (λ places. (m : Source) (keeps : Bool) → AreFilled m keeps parts.now places.items) }
+{
+    let mut places = Vec::with_capacity(alloc, parts.len())?;
+    for _part in parts {
+        places.push(None)?;
+    }
+    Ok(places)
+}
+
+/// The places with parts put into them.
+fn put_judged_parts_into_places(
+    mut places: Vec<Option<JudgedRuns>>,
+    taken: Vec<JudgedPart>,
+) -> Vec<Option<JudgedRuns>>
+    ensures { (m : Source) (keeps : Bool) (parts : List (Bor (List ℕ))) → AreFilled m keeps parts places.items
+        → All (StandsIn m keeps parts) taken.items → AreFilled m keeps parts result.items }
+{
+    for part in taken {
+        let JudgedPart { place, content } = part;
+        if place < places.len() {
+            places[place] = Some(content);
+        }
+    }
+    places
+}
+
+/// All parts that were taken, each in its place.
+fn put_judged_parts_in_order(
+    alloc: Global,
+    parts: &[&[u8]],
+    lists: Vec<Vec<JudgedPart>>,
+) -> Result<Vec<Option<JudgedRuns>>, AllocError>
+    ensures { IfOk result (λ places. (m : Source) (keeps : Bool)
+        → All (λ taken. All (StandsIn m keeps parts.now) taken.items) lists.items → AreFilled m keeps parts.now places.items) }
+{
+    let mut places = empty_places_for_parts(alloc, parts)?;
+    for taken in lists {
+        places = put_judged_parts_into_places(places, taken);
+    }
+    Ok(places)
+}
+
+/// How many runs the places hold.
+fn count_runs_in_places(places: &[Option<JudgedRuns>]) -> usize {
+    let mut count: usize = 0;
+    for place in places {
+        if let Some(content) = place {
+            count = count.saturating_add(content.runs.len());
+        }
+    }
+    count
+}
+
+/// The runs of each place, and their judgements as one list, or `None` if some place is empty.
+fn join_places_unless_one_is_empty(
+    alloc: Global,
+    places: Vec<Option<JudgedRuns>>,
+) -> Result<Option<JudgedParts>, AllocError>
+    ensures all { IfOk result (λ read. IfSome read (λ all. All IsSome places.items)) }
+    ensures runs { IfOk result
+        (λ read. IfSome read (λ all. joined all.runs.items ≡ flat_map runs_in places.items)) }
+    ensures judged { IfOk result
+        (λ read. IfSome read (λ all. all.judged.items ≡ flat_map judged_in places.items)) }
+{
+    let mut runs = Vec::with_capacity(alloc, places.len())?;
+    let mut judged = Vec::with_capacity(alloc, count_runs_in_places(places.as_slice()))?;
+    for place in places {
+        let Some(mut content) = place else {
+            return Ok(None);
+        };
+        judged.append(&mut content.judged)?;
+        runs.push(content.runs)?;
+    }
+    Ok(Some(JudgedParts { runs, judged }))
+}
 
 /// An input has no more parts than these.
 const PARTS: usize = 256;
@@ -36,10 +290,7 @@ pub fn split_before_second_bracket_line(input: &[u8]) -> Option<(&[u8], &[u8])>
 }
 
 /// The parts of an input. Each but the last ends before a line that begins with a bracket.
-pub fn split_input_into_parts<'a>(
-    alloc: Global,
-    input: &'a [u8],
-) -> Result<Vec<&'a [u8]>, AllocError>
+fn split_input_into_parts<'a>(alloc: Global, input: &'a [u8]) -> Result<Vec<&'a [u8]>, AllocError>
     ensures { IfOk result (λ parts. AreParts input.now (map (λ part. part.now) parts.items)) }
 {
     let mut parts = Vec::new(alloc);

@@ -1,11 +1,10 @@
 //! What threads may share and send. These functions do nothing: their contracts say it of types.
 ghost use Rattle.std.specs.Thread.{IsSend, IsSync};
 ghost use Rattle.pst_case.specs.contracts.history.Run.{the_row as run_row};
-ghost use Rattle.pst_model.specs.contracts.typed.Typed.{the_row as typed_row};
-ghost use Rattle.pst_rejudge.specs.contracts.taking.JudgedPart.{the_row as part_row};
+ghost use Rattle.pst_model.specs.contracts.model.Typed.{the_row as typed_row};
+ghost use Rattle.pst_rejudge.specs.contracts.parts.JudgedPart.{the_row as part_row};
 
-use crate::judging::JudgedRuns;
-use crate::taking::JudgedPart;
+use crate::parts::{JudgedPart, JudgedRuns};
 use pst_case::{Case, Command, Run};
 use pst_judge::Judged;
 use pst_model::Typed;

@@ -4,7 +4,7 @@ ghost use Rattle.std.specs.List.{AllZip};
 ghost use Rattle.pst_json_runs.specs.Lines.{has_json};
 ghost use Rattle.pst_rejudge.specs.StreamAnswers.{IsLineAnswer, IsTreeAnswer};
 
-use crate::each::{ItemResult, read_and_judge_tree};
+use crate::reading::{ItemResult, read_and_judge_tree};
 use crate::sharing::prove_models_are_sync;
 use pst_eval::Callbacks;
 use pst_json_runs::{begins_like_json_item, json_line_tree_or_empty};

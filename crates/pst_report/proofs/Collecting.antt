@@ -12,10 +12,10 @@ use Rattle.pst_ledger.specs.declared.entry.Entry.TheVariants.{Done}
 use Rattle.pst_report.specs.Distinct.{HasCase, IsShrunk, IsFailureAt, IsRecorded, AllHaveCase, HaveOtherCases, AreDistinctBelow, Keeps, passed, known, new}
 use Rattle.pst_report.specs.Failures.{case_line}
 use Rattle.pst_report.specs.Least.{failure_in}
-use Rattle.pst_report.specs.declared.distinct.NumberedFailure.{NumberedFailure}
-use Rattle.pst_shrink.specs.declared.shrunk.Shrunk.{Shrunk}
+use Rattle.pst_report.specs.declared.failures.NumberedFailure.{NumberedFailure}
+use Rattle.pst_shrink.specs.declared.shrinking.Shrunk.{Shrunk}
 use Rattle.pst_trial.specs.RecordView.{RecordView}
-use Rattle.pst_trial.specs.declared.run.JudgedRun.{JudgedRun}
+use Rattle.pst_trial.specs.declared.record.JudgedRun.{JudgedRun}
 
 any_kept : {X : Type 0} (P : X → Type 0) (xs ys : List X) → Any P xs → Any P (xs ++ ys)
 any_kept P xs ys (k, x, lt, at, p) = (

@@ -4,14 +4,14 @@ use Rattle.pst_model.specs.declared.model.Source.{Source}
 use Rattle.pst_report.specs.Kinds.{own_failure}
 use Rattle.pst_report.specs.Matching.{IsMatching, AreMatching}
 use Rattle.pst_shrink.specs.Shrinking.{first_of, IsTrail}
-use Rattle.pst_shrink.specs.declared.shrunk.Shrunk.{Shrunk}
-use Rattle.pst_shrink.specs.declared.shrunk.FailingCase.{FailingCase}
+use Rattle.pst_shrink.specs.declared.shrinking.Shrunk.{Shrunk}
+use Rattle.pst_shrink.specs.declared.shrinking.FailingCase.{FailingCase}
 use Rattle.pst_trial.specs.Driving.{Histories}
 use Rattle.pst_trial.specs.JudgedRuns.{IsAnswer}
 use Rattle.pst_trial.specs.PlanView.{PlanView}
 use Rattle.pst_trial.specs.Sound.{IsSound}
-use Rattle.pst_trial.specs.declared.outcome.TrialOutcome.TheVariants.{Failed}
-use Rattle.pst_trial.specs.declared.run.JudgedRun.{JudgedRun}
+use Rattle.pst_trial.specs.declared.record.TrialOutcome.TheVariants.{Failed}
+use Rattle.pst_trial.specs.declared.record.JudgedRun.{JudgedRun}
 
 module _ (may_drive : Histories) (m : Source) (repeats : ℕ) where
   last_matches : (before : List (FailingCase JudgedRun)) (last : FailingCase JudgedRun)

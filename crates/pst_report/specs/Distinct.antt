@@ -5,10 +5,10 @@ use Rattle.pst_ledger.specs.declared.entry.Entry.{Entry}
 use Rattle.pst_ledger.specs.declared.entry.Entry.TheVariants.{Done}
 use Rattle.pst_report.specs.Failures.{IsFailureOf, case_line}
 use Rattle.pst_report.specs.Least.{failure_in}
-use Rattle.pst_report.specs.declared.distinct.NumberedFailure.{NumberedFailure}
-use Rattle.pst_shrink.specs.declared.shrunk.Shrunk.{Shrunk}
+use Rattle.pst_report.specs.declared.failures.NumberedFailure.{NumberedFailure}
+use Rattle.pst_shrink.specs.declared.shrinking.Shrunk.{Shrunk}
 use Rattle.pst_trial.specs.RecordView.{RecordView}
-use Rattle.pst_trial.specs.declared.run.JudgedRun.{JudgedRun}
+use Rattle.pst_trial.specs.declared.record.JudgedRun.{JudgedRun}
 
 -- the failure has the case, as a tree and a line end
 abbrev pub HasCase : List ℕ → NumberedFailure → Type 0

@@ -8,10 +8,10 @@ use Rattle.pst_report.specs.Text.{run_line}
 use Rattle.pst_report.specs.declared.failures.ShrunkFailure.{ShrunkFailure}
 use Rattle.pst_runs.specs.Lines.{line_of}
 use Rattle.pst_runs.specs.Written.{run_form}
-use Rattle.pst_shrink.specs.declared.shrunk.Shrunk.{Shrunk}
-use Rattle.pst_shrink.specs.declared.shrunk.FailingCase.{FailingCase}
+use Rattle.pst_shrink.specs.declared.shrinking.Shrunk.{Shrunk}
+use Rattle.pst_shrink.specs.declared.shrinking.FailingCase.{FailingCase}
 use Rattle.pst_trial.specs.RecordView.{RecordView}
-use Rattle.pst_trial.specs.declared.run.JudgedRun.{JudgedRun}
+use Rattle.pst_trial.specs.declared.record.JudgedRun.{JudgedRun}
 
 -- the case without its replies
 abbrev pub case_of : Source → FailingCase JudgedRun → Run

@@ -1,20 +1,20 @@
 -- How the trials of a campaign ended, by kinds.
 use Rattle.std.specs.Prelude.{ℕ, ◌==◌, Bool, List}
 use Rattle.std.specs.List.{count_by}
-use Rattle.pst_judge.specs.declared.verdicts.Verdict.{Verdict}
-use Rattle.pst_judge.specs.declared.verdicts.Verdict.TheVariants as verdict
+use Rattle.pst_judge.specs.declared.judgement.Verdict.{Verdict}
+use Rattle.pst_judge.specs.declared.judgement.Verdict.TheVariants as verdict
 use Rattle.pst_ledger.specs.declared.entry.Entry.{Entry}
 use Rattle.pst_ledger.specs.declared.entry.Entry.TheVariants as entry
-use Rattle.pst_report.specs.declared.kind.EntryKind.{EntryKind}
-use Rattle.pst_report.specs.declared.kind.EntryKind.TheVariants.{Passed, Unexplained, Faulted, Broken}
-use Rattle.pst_report.specs.declared.kind.EntryKind.TheVariants.{GenFaulted, Lost, Undrawn}
+use Rattle.pst_report.specs.declared.status.EntryKind.{EntryKind}
+use Rattle.pst_report.specs.declared.status.EntryKind.TheVariants.{Passed, Unexplained, Faulted, Broken}
+use Rattle.pst_report.specs.declared.status.EntryKind.TheVariants.{GenFaulted, Lost, Undrawn}
 use Rattle.pst_shrink.specs.Shrinking.{first_of}
-use Rattle.pst_shrink.specs.declared.shrunk.Shrunk.{Shrunk}
-use Rattle.pst_shrink.specs.declared.shrunk.FailingCase.{FailingCase}
+use Rattle.pst_shrink.specs.declared.shrinking.Shrunk.{Shrunk}
+use Rattle.pst_shrink.specs.declared.shrinking.FailingCase.{FailingCase}
 use Rattle.pst_trial.specs.RecordView.{RecordView}
-use Rattle.pst_trial.specs.declared.outcome.TrialOutcome.{TrialOutcome}
-use Rattle.pst_trial.specs.declared.outcome.TrialOutcome.TheVariants as outcome
-use Rattle.pst_trial.specs.declared.run.JudgedRun.{JudgedRun}
+use Rattle.pst_trial.specs.declared.record.TrialOutcome.{TrialOutcome}
+use Rattle.pst_trial.specs.declared.record.TrialOutcome.TheVariants as outcome
+use Rattle.pst_trial.specs.declared.record.JudgedRun.{JudgedRun}
 
 -- the trial's own failing run: the first that was shrunk
 abbrev pub own_failure : Shrunk JudgedRun → FailingCase JudgedRun

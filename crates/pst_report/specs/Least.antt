@@ -1,13 +1,13 @@
 -- The least numbers of two kinds.
 use Rattle.std.specs.Prelude.{ℕ, ◌+◌, List, [], ◌∷◌, Option, Some, None}
-use Rattle.pst_eval.specs.declared.place.FaultPlace.{FaultPlace}
+use Rattle.pst_eval.specs.declared.callbacks.FaultPlace.{FaultPlace}
 use Rattle.pst_ledger.specs.declared.entry.Entry.{Entry}
 use Rattle.pst_ledger.specs.declared.entry.Entry.TheVariants.{Undrawn, Held, Done, Lost}
-use Rattle.pst_shrink.specs.declared.shrunk.Shrunk.{Shrunk}
+use Rattle.pst_shrink.specs.declared.shrinking.Shrunk.{Shrunk}
 use Rattle.pst_trial.specs.RecordView.{RecordView}
-use Rattle.pst_trial.specs.declared.outcome.TrialOutcome.{TrialOutcome}
-use Rattle.pst_trial.specs.declared.outcome.TrialOutcome.TheVariants.{GenFaulted, Passed, Failed}
-use Rattle.pst_trial.specs.declared.run.JudgedRun.{JudgedRun}
+use Rattle.pst_trial.specs.declared.record.TrialOutcome.{TrialOutcome}
+use Rattle.pst_trial.specs.declared.record.TrialOutcome.TheVariants.{GenFaulted, Passed, Failed}
+use Rattle.pst_trial.specs.declared.record.JudgedRun.{JudgedRun}
 
 -- where generating the case of a trial faulted
 abbrev pub fault_in : TrialOutcome → Option FaultPlace

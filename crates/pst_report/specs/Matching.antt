@@ -3,9 +3,9 @@ use Rattle.std.specs.Prelude.{◌≡◌, true}
 use Rattle.pst_case.specs.Matches.{matches}
 use Rattle.pst_model.specs.declared.model.Source.{Source}
 use Rattle.pst_report.specs.Kinds.{own_failure}
-use Rattle.pst_shrink.specs.declared.shrunk.Shrunk.{Shrunk}
-use Rattle.pst_shrink.specs.declared.shrunk.FailingCase.{FailingCase}
-use Rattle.pst_trial.specs.declared.run.JudgedRun.{JudgedRun}
+use Rattle.pst_shrink.specs.declared.shrinking.Shrunk.{Shrunk}
+use Rattle.pst_shrink.specs.declared.shrinking.FailingCase.{FailingCase}
+use Rattle.pst_trial.specs.declared.record.JudgedRun.{JudgedRun}
 
 -- the history matches the case
 abbrev pub IsMatching : Source → FailingCase JudgedRun → Type 0

@@ -6,13 +6,13 @@ use Rattle.pst_rejudge.specs.declared.field.FieldName.{FieldName}
 use Rattle.pst_rejudge.specs.declared.field.FieldName.TheVariants as name
 use Rattle.pst_ledger.specs.declared.entry.Entry.{Entry}
 use Rattle.pst_report.specs.Kinds.{count_of}
-use Rattle.pst_report.specs.declared.kind.EntryKind.{EntryKind}
-use Rattle.pst_report.specs.declared.kind.EntryKind.TheVariants as kind
+use Rattle.pst_report.specs.declared.status.EntryKind.{EntryKind}
+use Rattle.pst_report.specs.declared.status.EntryKind.TheVariants as kind
 use Rattle.pst_report.specs.declared.status.CampaignStatus.{CampaignStatus}
 use Rattle.pst_report.specs.declared.status.CampaignStatus.TheVariants.{Passed, Failed, Incomplete}
 use Rattle.pst_trial.specs.PlanView.{PlanView}
 use Rattle.pst_trial.specs.RecordView.{RecordView}
-use Rattle.pst_trial.specs.declared.settings.Settings.{Settings}
+use Rattle.pst_trial.specs.declared.plan.Settings.{Settings}
 
 -- how the campaign ended
 abbrev pub status_word : CampaignStatus → List ℕ

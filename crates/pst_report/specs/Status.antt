@@ -3,7 +3,7 @@ use Rattle.std.specs.Prelude.{Bool, not, if◌then◌else◌, ◌&&◌, ◌||◌
 use Rattle.std.specs.List.{list_any}
 use Rattle.pst_ledger.specs.declared.entry.Entry.{Entry}
 use Rattle.pst_report.specs.Kinds.{kind_of, is_same}
-use Rattle.pst_report.specs.declared.kind.EntryKind.TheVariants as kind
+use Rattle.pst_report.specs.declared.status.EntryKind.TheVariants as kind
 use Rattle.pst_report.specs.declared.status.CampaignStatus.{CampaignStatus}
 use Rattle.pst_report.specs.declared.status.CampaignStatus.TheVariants.{Passed, Failed, Incomplete}
 use Rattle.pst_trial.specs.RecordView.{RecordView}

@@ -2,7 +2,7 @@
 use Rattle.std.specs.Prelude.{ℕ, ◌+◌, ◌==◌, if◌then◌else◌, List, [], ◌∷◌, ◌++◌, length, codes, decimal, Option, Some, None}
 use Rattle.pst_case.specs.declared.history.Run.{Run}
 use Rattle.pst_eval.specs.Places.{callback_name}
-use Rattle.pst_eval.specs.declared.place.FaultPlace.{FaultPlace}
+use Rattle.pst_eval.specs.declared.callbacks.FaultPlace.{FaultPlace}
 use Rattle.pst_judge.specs.VerdictText.{verdict_text}
 use Rattle.pst_ledger.specs.Names.{cause_name}
 use Rattle.pst_ledger.specs.declared.entry.Cause.{Cause}
@@ -11,18 +11,18 @@ use Rattle.pst_ledger.specs.declared.entry.Entry.TheVariants as entry
 use Rattle.pst_model.specs.declared.model.Source.{Source}
 use Rattle.pst_report.specs.Kinds.{count_of, own_failure}
 use Rattle.pst_report.specs.Least.{least_fault, least_failure}
-use Rattle.pst_report.specs.declared.kind.EntryKind.{EntryKind}
-use Rattle.pst_report.specs.declared.kind.EntryKind.TheVariants as kind
+use Rattle.pst_report.specs.declared.status.EntryKind.{EntryKind}
+use Rattle.pst_report.specs.declared.status.EntryKind.TheVariants as kind
 use Rattle.pst_runs.specs.Lines.{line_of}
 use Rattle.pst_runs.specs.Written.{run_form}
-use Rattle.pst_shrink.specs.declared.shrunk.ShrinkEnd.{ShrinkEnd}
-use Rattle.pst_shrink.specs.declared.shrunk.ShrinkEnd.TheVariants.{Minimal, Stopped}
-use Rattle.pst_shrink.specs.declared.shrunk.Shrunk.{Shrunk}
-use Rattle.pst_shrink.specs.declared.shrunk.FailingCase.{FailingCase}
+use Rattle.pst_shrink.specs.declared.shrinking.ShrinkEnd.{ShrinkEnd}
+use Rattle.pst_shrink.specs.declared.shrinking.ShrinkEnd.TheVariants.{Minimal, Stopped}
+use Rattle.pst_shrink.specs.declared.shrinking.Shrunk.{Shrunk}
+use Rattle.pst_shrink.specs.declared.shrinking.FailingCase.{FailingCase}
 use Rattle.pst_trial.specs.PlanView.{PlanView}
 use Rattle.pst_trial.specs.RecordView.{RecordView}
-use Rattle.pst_trial.specs.declared.run.JudgedRun.{JudgedRun}
-use Rattle.pst_trial.specs.declared.settings.Settings.{Settings}
+use Rattle.pst_trial.specs.declared.record.JudgedRun.{JudgedRun}
+use Rattle.pst_trial.specs.declared.plan.Settings.{Settings}
 use Rattle.pst_value.specs.FaultName.{fault_name}
 
 -- the end of a line

@@ -1,7 +1,7 @@
 -- What a writer took of a report.
 use Rattle.std.specs.Prelude.{◌≡◌, ℕ, Bool, true, false, List, Option, Result, MatchResult}
-use Rattle.pst_report.specs.declared.fault.ReportFault.{ReportFault}
-use Rattle.pst_report.specs.declared.fault.ReportFault.TheVariants.{WriteFailed, NoMemory}
+use Rattle.pst_report.specs.declared.writer.ReportFault.{ReportFault}
+use Rattle.pst_report.specs.declared.writer.ReportFault.TheVariants.{WriteFailed, NoMemory}
 use Rattle.pst_sexpr.specs.Writing.{WritesAll, WritesPart}
 
 -- where the writer failed a beginning of the text was appended, and where memory was refused nothing was

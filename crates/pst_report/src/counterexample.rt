@@ -3,7 +3,7 @@ ghost use Rattle.std.specs.Prelude.{◌≡◌, IfOk, string_bytes};
 ghost use Rattle.pst_report.specs.Matching.{AreMatching, IsMatching};
 ghost use Rattle.pst_report.specs.Text as spec;
 
-use crate::kind::failing_run_before_shrinking;
+use crate::status::failing_run_before_shrinking;
 use pst_case::{Run, shape};
 use pst_model::Typed;
 use pst_runs::write_runs;

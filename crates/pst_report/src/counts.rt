@@ -1,12 +1,11 @@
-//! The lines that count the numbers of a campaign.
+//! The lines that count the numbers of a campaign, and name those that were lost.
 ghost use Rattle.std.specs.Prelude.{◌≡◌, IfOk, string_bytes};
 ghost use Rattle.pst_report.specs.Least.{least_fault};
 ghost use Rattle.pst_report.specs.Text as spec;
 
-use crate::kind::{EntryKind, count_entries_of_kind};
-use crate::least::first_trial_with_generation_fault;
-use crate::losses::lost_trials_text;
-use pst_ledger::Entry;
+use crate::failures::first_trial_with_generation_fault;
+use crate::status::{EntryKind, count_entries_of_kind};
+use pst_ledger::{Cause, Entry};
 use pst_trial::Record;
 use std::alloc::{AllocError, Global};
 
@@ -104,4 +103,25 @@ pub fn entry_count_report_lines(
     let mut lines = failed_and_passed_count_lines(alloc, entries)?;
     lines.push_str(trials_without_run_report_lines(alloc, entries)?.as_str())?;
     Ok(lines)
+}
+
+/// ` NUMBER:CAUSE`.
+fn lost_trial_text(alloc: Global, number: usize, cause: &Cause) -> Result<String, AllocError>
+    ensures { IfOk result (λ text. string_bytes text ≡ spec.loss number cause.now) }
+{
+    let name = cause.name();
+    format!(in alloc; " {number}:{name}")
+}
+
+/// ` NUMBER:CAUSE` for each lost number, in order.
+fn lost_trials_text(alloc: Global, entries: &[Entry<Record>]) -> Result<String, AllocError>
+    ensures { IfOk result (λ text. string_bytes text ≡ spec.losses 0 entries.now) }
+{
+    let mut text = String::new(alloc);
+    for (number, entry) in entries.iter().enumerate() {
+        if let Entry::Lost(cause) = entry {
+            text.push_str(lost_trial_text(alloc, number, cause)?.as_str())?;
+        }
+    }
+    Ok(text)
 }

@@ -5,9 +5,10 @@ ghost use Rattle.pst_report.specs.Matching.{AreMatching, IsMatching};
 ghost use Rattle.pst_report.specs.Object as spec;
 
 use crate::counterexample::{failing_run_line, shrink_end_name};
-use crate::kind::{EntryKind, count_entries_of_kind, failing_run_before_shrinking};
-use crate::least::first_failed_trial;
-use crate::status::CampaignStatus;
+use crate::failures::first_failed_trial;
+use crate::status::{
+    CampaignStatus, EntryKind, count_entries_of_kind, failing_run_before_shrinking,
+};
 use pst_ledger::{Closed, Entry};
 use pst_model::Typed;
 use pst_rejudge::{Field, FieldName, add_number_field, add_text_field};

@@ -3,11 +3,8 @@
 //! answer than the wanted one, and a line if all is right.
 #![tactic(auto)]
 
-mod answers;
 mod blocks;
 mod campaigns;
-mod cores;
-mod evaluated;
 mod examples;
 mod explained;
 mod expressions;
@@ -15,7 +12,6 @@ mod folders;
 mod forms;
 mod generated;
 mod items;
-mod judged;
 mod messages;
 mod models;
 mod questions;
@@ -24,7 +20,6 @@ mod requests;
 mod tables;
 mod tally;
 mod texts;
-mod words;
 
 use campaigns::{SystemPool, add_system_or_note_no_memory};
 use folders::check_folder_rows_and_print_results;

@@ -6,9 +6,9 @@ use crate::explained::{
     explanations_and_status_answer, longest_explanation_line_length_answer,
     search_graph_and_status_answer,
 };
-use crate::judged::judged_item_warnings_answer;
 use crate::messages::{
-    count_prefixes_with_placed_message_answer, model_warnings_answer, refusal_messages_answer,
+    count_prefixes_with_placed_message_answer, judged_item_warnings_answer, model_warnings_answer,
+    refusal_messages_answer,
 };
 use crate::random::random_expression_outcome_counts_answer;
 use pst_messages::MessageScope;

@@ -5,8 +5,7 @@
 //! before and after each row's text (`before TEXT`, `after TEXT`). A row is `TEXT => WANTED`; its text may have several
 //! lines. In all texts braces mean what `texts.rt` says.
 
-use crate::answers::{QuestionText, answer_to_question};
-use crate::questions::{Question, question_named};
+use crate::questions::{Question, QuestionText, answer_to_question, question_named};
 use crate::tally::Tally;
 use crate::texts::text_with_braces_expanded;
 use std::fs::Files;

@@ -1,12 +1,11 @@
 //! The entries of a map in an argument or a reply.
-
 ghost use Rattle.std.specs.Prelude.{◌≡◌, ◌<◌, true, IfOk, Option, List, option_copied};
 ghost use Rattle.pst_run_problems.specs.ValuePlaces as spec;
 ghost use Rattle.pst_model.specs.declared.model.Source.{Source};
 ghost use Rattle.pst_value.specs.declared.ty.Ty.{Ty};
 
-use crate::ill::ValueFault;
 use crate::value_fault::FoundValueFault;
+use crate::value_problem::ValueFault;
 use pst_runs::{map_entry_key_and_value, read_map_key};
 use pst_sexpr::Form;
 use pst_value::{Items, Key, KeyTy};

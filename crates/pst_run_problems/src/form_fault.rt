@@ -1,10 +1,12 @@
 //! The first fault in the form of a case or a run, and its place.
-ghost use Rattle.std.specs.Prelude.{◌≡◌, ◌+◌, ◌<◌, ◌^◌, option_copied, length};
+ghost use Rattle.std.specs.Prelude.{◌≡◌, ◌+◌, ◌<◌, ◌^◌, option_copied, length, IfOk};
 ghost use Rattle.std.specs.List.{list_all};
 ghost use Rattle.pst_run_problems.specs.ItemForm as spec;
 ghost use Rattle.pst_runs.specs.Forms.{section, are_two_to_four};
+ghost use Rattle.pst_run_problems.specs.Places as places;
 
 use pst_sexpr::{Form, node_of, word_of};
+use std::alloc::{AllocError, Global};
 
 /// A part of an item that begins with a word.
 #[derive(Clone, Copy, Drop)]
@@ -326,5 +328,24 @@ pub fn first_case_or_run_form_fault(form: &Form) -> Option<CaseFormFault>
     match parts_after_head_word("run", form) {
         Some(parts) => case_or_run_parts_fault(true, parts),
         None => Some(CaseFormFault::OtherHead),
+    }
+}
+
+/// The numbers that lead from an item to the tree that has the fault `fault`.
+pub fn path_to_form_fault(alloc: Global, fault: CaseFormFault) -> Result<Vec<usize>, AllocError>
+    ensures { IfOk result (λ path. path.items ≡ places.place fault) }
+{
+    match fault {
+        CaseFormFault::OtherHead
+        | CaseFormFault::Missing(_)
+        | CaseFormFault::ListCount(_, _)
+        | CaseFormFault::NoList => Vec::from_slice(alloc, &[]),
+        CaseFormFault::OtherPart(_, place) | CaseFormFault::Misplaced(place) => {
+            Vec::from_slice(alloc, &[place])
+        }
+        CaseFormFault::NoCall(place, number) => Vec::from_slice(alloc, &[place, number]),
+        CaseFormFault::BranchCount(_) => Vec::from_slice(alloc, &[2]),
+        CaseFormFault::NoBranch(number) => Vec::from_slice(alloc, &[2, number]),
+        CaseFormFault::NoBranchCall(number, offset) => Vec::from_slice(alloc, &[2, number, offset]),
     }
 }

@@ -7,23 +7,16 @@
 //! `AllocError` means that an allocation failed.
 #![tactic(auto)]
 
-mod argument_fault;
 mod arguments;
 mod command;
 mod entries;
 mod form_fault;
-mod ill;
 pub mod laws;
-mod places;
 mod replies;
-mod reply_fault;
-mod results;
 mod runs;
 mod shape;
-mod shown;
 mod value_fault;
-mod values;
-mod variables;
+mod value_problem;
 
 pub use command::{
     Part, find_command_with_path, find_part_and_offset_of_command, node_parts_or_empty,

@@ -1,19 +1,21 @@
-//! The replies of a run.
-ghost use Rattle.std.specs.Prelude.{◌≡◌, ◌+◌, ◌<◌, ◌^◌, length};
+//! The replies of a run: the first fault in one, and the problems of refused replies.
+ghost use Rattle.std.specs.Prelude.{◌≡◌, ◌+◌, ◌<◌, ◌^◌, length, true, IfOk};
 ghost use Rattle.pst_run_problems.specs.ItemReplies as spec;
 ghost use Rattle.pst_runs.specs.Replies.{listed_at};
+ghost use Rattle.std.specs.Option.{is_none, is_some};
+ghost use Rattle.pst_run_problems.specs.ValuePlaces as value_places;
+ghost use Rattle.pst_runs.specs.Values.{value_of, in_replies};
 
 use crate::command::{
     CaseSearch, Part, find_part_and_offset_of_command, node_parts_after_head, node_parts_or_empty,
 };
-use crate::ill::{ValueFault, value_fault_problem};
-use crate::reply_fault::first_reply_fault;
-use crate::values::problem_of_found_or_other_fault;
+use crate::value_fault::{FoundValueFault, ValueSearch, Wanted, first_value_fault};
+use crate::value_problem::{ValueFault, problem_of_found_or_other_fault, value_fault_problem};
 use pst_sexpr::{Form, node_of, tree_in};
 use pst_syntax_problems::{
     FoundProblem, Problem, counted_noun, has_head, problem_at, problem_with_note, with_note,
 };
-use std::alloc::Global;
+use std::alloc::{AllocError, Global};
 
 /// A reply: the numbers that lead to it from its item, and its tree.
 #[derive(Clone, Copy, Drop)]
@@ -253,4 +255,24 @@ pub fn bad_reply_problem(
         }
         None => Ok(None),
     }
+}
+
+/// The first fault in a reply. None is found exactly if the reply spells a value as the reader reads it, and its path
+/// leads to a tree that the reader refuses.
+pub fn first_reply_fault<'a>(
+    alloc: Global,
+    search: &CaseSearch<'_>,
+    form: &'a Form,
+) -> Result<Option<FoundValueFault<'a>>, AllocError>
+    ensures none { IfOk result (λ found.
+        is_none found ≡ is_some (value_of (in_replies search.now.source.now) form.now)) }
+    ensures place { IfOk result (λ found.
+        value_places.is_reply_led search.now.source.now form.now found ≡ true) }
+{
+    let search = ValueSearch {
+        source: search.source,
+        parts: search.parts,
+        results: &[],
+    };
+    first_value_fault(alloc, &search, form, Wanted::Any)
 }

@@ -4,7 +4,7 @@ use crate::arguments::bad_arguments_problem_with_declaration;
 use crate::command::{CaseSearch, Command, Part, find_command, parts_of_case_or_run};
 use crate::replies::{bad_reply_problem, wrong_reply_or_list_count_problem};
 use crate::shape::case_or_run_form_problem_with_note;
-use crate::variables::{SoughtVariable, first_sought_variable_problem};
+use crate::value_problem::{SoughtVariable, first_sought_variable_problem};
 use pst_case::CaseFaultKind;
 use pst_model::{Item, Source};
 use pst_runs::{RunFault, RunFaultKind};

@@ -1,9 +1,10 @@
 //! The form of cases and runs.
 
 use crate::command::node_parts_or_empty;
-use crate::form_fault::{CaseFormFault, PartsWithReplyLists, first_case_or_run_form_fault};
-use crate::places::path_to_form_fault;
-use crate::shown::problem_showing_tree;
+use crate::form_fault::{
+    CaseFormFault, PartsWithReplyLists, first_case_or_run_form_fault, path_to_form_fault,
+};
+use crate::value_problem::problem_showing_tree;
 use pst_sexpr::{Form, tree_in};
 use pst_syntax_problems::{
     DidYouMean, FoundProblem, NearestNameSoFar, counted_noun, has_head, head_word_or_empty,

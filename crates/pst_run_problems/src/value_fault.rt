@@ -1,5 +1,4 @@
 //! The first fault in an argument or a reply. The reader of runs says which trees have one.
-
 ghost use Rattle.std.specs.Prelude.{◌≡◌, ◌∷◌, true, IfOk, option_copied, option_map, Option};
 ghost use Rattle.std.specs.Option.{is_none};
 ghost use Rattle.pst_run_problems.specs.ValuePlaces as spec;
@@ -8,7 +7,7 @@ ghost use Rattle.pst_value.specs.declared.key.KeyTy.{KeyTy};
 
 use crate::command::{Part, command_number_of_variable, result_type_of_command};
 use crate::entries::{fault_of_first_bad_map_entry_or_key, is_bool_word};
-use crate::ill::ValueFault;
+use crate::value_problem::ValueFault;
 use pst_model::{Param, Source};
 use pst_runs::{Spelling, read_value};
 use pst_sexpr::{Form, is_integer, word_of};

@@ -5,9 +5,9 @@ use Rattle.std.specs.List.{list_any, list_all}
 use Rattle.std.proofs.lemmas.Bool.Decides.{nat_tests}
 use Rattle.pst_case.specs.Shape.{holds_var, holds_reference, is_known, is_forward, is_cross, or_else, command_fault, at_command, part_fault, branches_fault}
 use Rattle.pst_case.specs.declared.case.Command.{Command}
-use Rattle.pst_case.specs.declared.fault.CaseFault.{CaseFault}
-use Rattle.pst_case.specs.declared.fault.CaseFaultKind.TheVariants.{UnknownOp, BadArgument, ForwardVar, CrossVar}
-use Rattle.pst_case.specs.declared.fault.CaseFaultKind.{CaseFaultKind}
+use Rattle.pst_case.specs.declared.shaping.CaseFault.{CaseFault}
+use Rattle.pst_case.specs.declared.shaping.CaseFaultKind.TheVariants.{UnknownOp, BadArgument, ForwardVar, CrossVar}
+use Rattle.pst_case.specs.declared.shaping.CaseFaultKind.{CaseFaultKind}
 use Rattle.pst_model.specs.Fitting.{args_fit, args_fit_in}
 use Rattle.pst_model.specs.Language.{KeepsLanguage, holds_map}
 use Rattle.pst_model.specs.Levels as ty_levels

@@ -17,7 +17,7 @@ use Rattle.pst_runs.specs.Lawful.{IsLawful}
 use Rattle.pst_runs.specs.Reading.{readable_case}
 use Rattle.pst_runs.specs.Replies.{◌>>=◌, then_more, history_of}
 use Rattle.pst_sexpr.specs.Parts.{and_then}
-use Rattle.pst_runs.specs.declared.fault.RunFaultKind.TheVariants.{NotAFit}
+use Rattle.pst_runs.specs.declared.reader.RunFaultKind.TheVariants.{NotAFit}
 use Rattle.pst_sexpr.specs.Bytes.{is_word_byte}
 use Rattle.pst_sexpr.specs.Lawful.{IsTree, AreTrees}
 use Rattle.pst_sexpr.specs.declared.form.Form.TheVariants.{Word}

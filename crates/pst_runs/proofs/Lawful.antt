@@ -4,7 +4,7 @@ use Rattle.pst_case.specs.Matches.{reply_fits, part_matches, branches_match, mat
 use Rattle.pst_case.specs.Shape.{result_type, before_suffix}
 use Rattle.pst_case.specs.declared.case.Case.{Case}
 use Rattle.pst_case.specs.declared.case.Command.{Command}
-use Rattle.pst_case.specs.declared.fault.CaseFault.{CaseFault}
+use Rattle.pst_case.specs.declared.shaping.CaseFault.{CaseFault}
 use Rattle.pst_case.specs.declared.history.History.{History}
 use Rattle.pst_case.specs.declared.history.Reply.{Reply}
 use Rattle.pst_case.specs.declared.history.Reply.TheVariants as reply
@@ -18,8 +18,8 @@ use Rattle.pst_runs.specs.Reading.{readable_case, case_fault}
 use Rattle.pst_runs.specs.Replies.{◌>>=◌, then_more, or_number, listed, listed_at, answered, reply_word, or_value, reply_of, part_replies, branch_replies, history_of, branches_count, are_counted}
 use Rattle.pst_runs.specs.Values.{value_of, in_replies}
 use Rattle.pst_sexpr.specs.Parts.{and_then, word_of}
-use Rattle.pst_runs.specs.declared.fault.ItemFault.{ItemFault}
-use Rattle.pst_runs.specs.declared.fault.RunFaultKind.TheVariants.{NotAFit}
+use Rattle.pst_runs.specs.declared.reader.ItemFault.{ItemFault}
+use Rattle.pst_runs.specs.declared.reader.RunFaultKind.TheVariants.{NotAFit}
 use Rattle.pst_sexpr.specs.declared.form.Form.{Form}
 use Rattle.pst_value.specs.declared.value.Value.{Value}
 use Rattle.std.specs.Str.{bytes_eq}

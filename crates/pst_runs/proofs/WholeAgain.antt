@@ -7,8 +7,8 @@ use Rattle.pst_case.specs.Shape as shape
 use Rattle.pst_case.specs.Shape.{IsShaped, joined, or_else, shape_fault}
 use Rattle.pst_case.specs.declared.case.Case.{Case}
 use Rattle.pst_case.specs.declared.case.Command.{Command}
-use Rattle.pst_case.specs.declared.fault.CaseFault.{CaseFault}
-use Rattle.pst_case.specs.declared.fault.CaseFaultKind.TheVariants.{OverLimit}
+use Rattle.pst_case.specs.declared.shaping.CaseFault.{CaseFault}
+use Rattle.pst_case.specs.declared.shaping.CaseFaultKind.TheVariants.{OverLimit}
 use Rattle.pst_model.specs.declared.model.Source.{Source}
 use Rattle.pst_runs.proofs.Limits.{not_over}
 use Rattle.pst_runs.specs.Reading.{readable_part, readable_case, part_unread, branches_unread, case_unread, over_limit, first_of, case_fault}

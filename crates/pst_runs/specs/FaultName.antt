@@ -1,9 +1,9 @@
 -- The words that are printed for the faults of runs.
 use Rattle.std.specs.Prelude.{ℕ, List, ◌++◌, codes, decimal}
 use Rattle.pst_case.specs.FaultName as of_case
-use Rattle.pst_runs.specs.declared.fault.RunFault.{RunFault}
-use Rattle.pst_runs.specs.declared.fault.RunFaultKind.{RunFaultKind}
-use Rattle.pst_runs.specs.declared.fault.RunFaultKind.TheVariants.{Case, BadReply, NotAFit, BadForm}
+use Rattle.pst_runs.specs.declared.reader.RunFault.{RunFault}
+use Rattle.pst_runs.specs.declared.reader.RunFaultKind.{RunFaultKind}
+use Rattle.pst_runs.specs.declared.reader.RunFaultKind.TheVariants.{Case, BadReply, NotAFit, BadForm}
 
 abbrev pub fault_name : RunFaultKind → List ℕ
 fault_name (Case kind) = of_case.fault_name kind

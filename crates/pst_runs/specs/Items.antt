@@ -1,17 +1,17 @@
 -- Reading runs: the form of an item first, then the faults of its case, then its replies.
 use Rattle.std.specs.Prelude.{◌+◌, ℕ, if◌then◌else◌, List, [], ◌∷◌, Option, Some, None, Result, Ok, Err}
 use Rattle.pst_case.specs.declared.case.Case.{Case}
-use Rattle.pst_case.specs.declared.fault.CaseFault.{CaseFault}
-use Rattle.pst_case.specs.declared.fault.CaseFaultKind.TheVariants.{NoMemory}
+use Rattle.pst_case.specs.declared.shaping.CaseFault.{CaseFault}
+use Rattle.pst_case.specs.declared.shaping.CaseFaultKind.TheVariants.{NoMemory}
 use Rattle.pst_case.specs.declared.history.History.{History}
 use Rattle.pst_case.specs.declared.history.Run.{Run}
 use Rattle.pst_model.specs.declared.model.Source.{Source}
 use Rattle.pst_runs.specs.Forms.{Parts, parts_of}
 use Rattle.pst_runs.specs.Reading.{readable_case, case_fault}
 use Rattle.pst_runs.specs.Replies.{◌>>=◌, then_more, history_of, are_counted}
-use Rattle.pst_runs.specs.declared.fault.ItemFault.{ItemFault}
-use Rattle.pst_runs.specs.declared.fault.RunFault.{RunFault}
-use Rattle.pst_runs.specs.declared.fault.RunFaultKind.TheVariants as kind
+use Rattle.pst_runs.specs.declared.reader.ItemFault.{ItemFault}
+use Rattle.pst_runs.specs.declared.reader.RunFault.{RunFault}
+use Rattle.pst_runs.specs.declared.reader.RunFaultKind.TheVariants as kind
 use Rattle.pst_sexpr.specs.declared.form.Form.{Form}
 
 -- ---- one item

@@ -3,8 +3,8 @@ use Rattle.std.specs.Prelude.{◌≡◌, ℕ, Bool, true, false, List, [], ◌�
 use Rattle.pst_sexpr.specs.Spelling.{spelling}
 use Rattle.pst_sexpr.specs.Writing.{WritesAll, WritesPart}
 use Rattle.pst_sexpr.specs.declared.form.Form.{Form}
-use Rattle.pst_runs.specs.declared.write.fault.WriteFault.{WriteFault}
-use Rattle.pst_runs.specs.declared.write.fault.WriteFault.TheVariants.{WriteFailed, NoMemory}
+use Rattle.pst_runs.specs.declared.write.writer.WriteFault.{WriteFault}
+use Rattle.pst_runs.specs.declared.write.writer.WriteFault.TheVariants.{WriteFailed, NoMemory}
 
 -- a tree in its spelling, and a line end
 abbrev pub line_of : Form → List ℕ

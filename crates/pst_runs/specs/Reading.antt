@@ -3,9 +3,9 @@ use Rattle.std.specs.Prelude.{◌==◌, ◌&&◌, ◌||◌, ◌+◌, ℕ, nat_lt
 use Rattle.pst_case.specs.Shape.{joined, are_over_limit, or_else, at_command, shape_fault}
 use Rattle.pst_case.specs.declared.case.Case.{Case}
 use Rattle.pst_case.specs.declared.case.Command.{Command}
-use Rattle.pst_case.specs.declared.fault.CaseFault.{CaseFault}
-use Rattle.pst_case.specs.declared.fault.CaseFaultKind.{CaseFaultKind}
-use Rattle.pst_case.specs.declared.fault.CaseFaultKind.TheVariants.{UnknownOp, BadArgument, ForwardVar, CrossVar, OverLimit, NoMemory}
+use Rattle.pst_case.specs.declared.shaping.CaseFault.{CaseFault}
+use Rattle.pst_case.specs.declared.shaping.CaseFaultKind.{CaseFaultKind}
+use Rattle.pst_case.specs.declared.shaping.CaseFaultKind.TheVariants.{UnknownOp, BadArgument, ForwardVar, CrossVar, OverLimit, NoMemory}
 use Rattle.pst_model.specs.declared.model.Source.{Source}
 use Rattle.pst_runs.specs.Commands.{present}
 use Rattle.pst_runs.specs.declared.commands.SpelledCommand.{SpelledCommand}

@@ -4,8 +4,6 @@
 #![tactic(auto)]
 
 mod commands;
-mod fault;
-mod keys;
 mod parts;
 mod reader;
 mod reading;
@@ -14,8 +12,6 @@ mod room;
 mod values;
 mod write;
 
-pub use fault::{RunFault, RunFaultKind};
-pub use keys::{map_entry_key_and_value, read_map_key};
-pub use reader::read_runs;
-pub use values::{Spelling, read_value};
+pub use reader::{RunFault, RunFaultKind, read_runs};
+pub use values::{Spelling, map_entry_key_and_value, read_map_key, read_value};
 pub use write::{WriteFault, run_tree, value_form, write_runs};

@@ -1,6 +1,6 @@
 -- Calls by name and arguments, and kinds of answers.
 use Rattle.std.specs.Prelude.{◌≡◌, ℕ, ℤ, pos, List, [], ◌∷◌, codes, Bool, ◌⊎◌}
-use Rattle.pst_system.specs.declared.call.RealCall.{RealCall}
+use Rattle.pst_system.specs.declared.system.RealCall.{RealCall}
 use Rattle.pst_value.specs.declared.value.Value.{Value}
 use Rattle.pst_value.specs.declared.value.Value.TheVariants as form
 

@@ -1,8 +1,8 @@
 -- What the sample systems answer to which call, and which calls they refuse.
 use Rattle.std.specs.Prelude.{◌≡◌, pos, codes, true, ◌⊎◌}
-use Rattle.pst_system.specs.declared.call.RealCall.{RealCall}
-use Rattle.pst_system.specs.declared.call.CallFault.{CallFault}
-use Rattle.pst_system.specs.declared.call.CallFault.TheVariants.{Refused, NoMemory}
+use Rattle.pst_system.specs.declared.system.RealCall.{RealCall}
+use Rattle.pst_system.specs.declared.system.CallFault.{CallFault}
+use Rattle.pst_system.specs.declared.system.CallFault.TheVariants.{Refused, NoMemory}
 use Rattle.pst_value.specs.declared.value.Value.{Value}
 use Rattle.pst_value.specs.declared.value.Value.TheVariants as form
 use Rattle.pst_samples.specs.Calls.{IsBare, IsNumbered, IsMeet, IsInt, IsBool, IsListOfAtMostOneInt}

@@ -2,7 +2,7 @@
 ghost use Rattle.std.specs.Prelude.{◌↔◌, IsTrue, MatchOption};
 ghost use Rattle.pst_samples.specs.Calls.{IsBare, HasNumber, IsNumbered, IsMeet};
 
-use crate::flags::Side;
+use crate::meet::Side;
 use pst_system::RealCall;
 use pst_value::Value;
 

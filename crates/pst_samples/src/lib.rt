@@ -5,19 +5,11 @@
 
 mod asked;
 mod counter;
-mod flags;
 mod meet;
-mod pair;
 mod queue;
-mod racy;
 mod registry;
-mod stuck;
 
-pub use counter::Counter;
-pub use flags::{Flags, Side};
-pub use meet::Meet;
-pub use pair::Pair;
+pub use counter::{Counter, Racy, Stuck};
+pub use meet::{Flags, Meet, Pair, Side};
 pub use queue::{Queue, ROOM};
-pub use racy::Racy;
 pub use registry::Registry;
-pub use stuck::Stuck;

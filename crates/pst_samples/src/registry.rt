@@ -1,7 +1,7 @@
 //! The system `registry`.
 ghost use Rattle.std.specs.Prelude.{◌≡◌, MatchResult};
 ghost use Rattle.pst_samples.specs.Calls.{IsInt};
-ghost use Rattle.pst_system.specs.declared.call.CallFault.TheVariants.{NoMemory};
+ghost use Rattle.pst_system.specs.declared.system.CallFault.TheVariants.{NoMemory};
 
 use crate::asked::{is_call_without_arguments, sole_integer_argument_of_call};
 use pst_system::{CallFault, RealCall, System};

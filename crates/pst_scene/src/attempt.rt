@@ -1,13 +1,11 @@
 //! Evaluating the parts of an expression, as far as they have values.
-
 ghost use Rattle.std.specs.Prelude.{◌≡◌, [], ◌∷◌, reverse, IfOk, MatchOption};
 ghost use Rattle.pst_eval.specs.Env.{env_of, mean_in};
 ghost use Rattle.pst_eval.specs.Meaning as spec;
 ghost use Rattle.pst_scene.specs.Outcomes.{outcome_at};
 ghost use Rattle.pst_scene.specs.Parts.{Attempts, AttemptsAll, NamedIn, referred};
 
-use crate::binding::bindings_of_environment;
-use crate::faulty::FaultyPart;
+use crate::faulty::{FaultyPart, bindings_of_environment};
 use pst_eval::{Context, Env, eval};
 use pst_model::{Clause, Expr, Fun, Item};
 use pst_operators::Stop;

@@ -1,12 +1,11 @@
 //! Why the postcondition of a command is not true on a state.
 
-use crate::calls::Call;
+use crate::evaluating::arguments_with_recorded_results;
 use crate::evidence_falsity::{Evidence, FalsePart, false_part_of_postcondition};
-use crate::scene::Scene;
-use crate::texts::{
+use crate::scene::{Call, Scene};
+use crate::spelling::{
     copy_explanation_text, expression_text, join_explanation_parts, operation_of_call, value_text,
 };
-use crate::walk::arguments_with_recorded_results;
 use pst_case::Reply;
 use pst_eval::Env;
 use pst_model::Source;

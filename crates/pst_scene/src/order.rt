@@ -1,6 +1,6 @@
 //! The commands of a case in the order of an interleaving.
 
-use crate::calls::{Call, Calls};
+use crate::scene::{Call, Calls};
 use std::alloc::{AllocError, Global};
 
 /// Returns how many letters of `interleaving` are `branch`.

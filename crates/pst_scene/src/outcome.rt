@@ -1,13 +1,12 @@
 //! The outcome of a command on a state.
 
-use crate::calls::Call;
-use crate::evaluating::evaluate_expression_of_model;
-use crate::falsity::{Falsity, false_postcondition_text, why_postcondition_is_not_true};
-use crate::scene::Scene;
-use crate::texts::{copy_explanation_text, join_explanation_parts, operation_of_call};
-use crate::walk::{
-    PreAnswer, arguments_with_recorded_results, evaluate_precondition, state_after_call,
+use crate::evaluating::{
+    PreAnswer, arguments_with_recorded_results, evaluate_expression_of_model,
+    evaluate_precondition, state_after_call,
 };
+use crate::falsity::{Falsity, false_postcondition_text, why_postcondition_is_not_true};
+use crate::scene::{Call, Scene};
+use crate::spelling::{copy_explanation_text, join_explanation_parts, operation_of_call};
 use pst_case::Reply;
 use pst_eval::Env;
 use pst_model::Source;

@@ -1,7 +1,7 @@
 //! Lines of a width.
 
 use crate::cutting::cut_in_middle_if_too_long;
-use crate::style::{END, Style};
+use crate::table::{END, Style};
 use std::alloc::{AllocError, Global};
 
 /// The text so far, and the width of its lines.

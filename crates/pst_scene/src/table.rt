@@ -1,7 +1,6 @@
-//! Cells in columns.
+//! Cells in columns, and how their text is shown on a terminal.
 
 use crate::page::Page;
-use crate::style::Style;
 use std::alloc::{AllocError, Global};
 
 /// The number of spaces between two columns.
@@ -285,5 +284,30 @@ impl Table {
             page.text.push(b'\n')?;
         }
         Ok(())
+    }
+}
+
+/// How a text is shown on a terminal.
+#[derive(Clone, Copy, Debug, PartialEq, Eq, Drop)]
+pub enum Style {
+    /// As all other text.
+    Plain,
+    /// As something that is wrong: in red.
+    Wrong,
+    /// As something that would be right: in green.
+    Right,
+}
+
+/// What ends a text that is not plain.
+pub(crate) const END: &str = "\x1b[0m";
+
+impl Style {
+    /// What begins a text, which `END` ends; nothing if it is plain.
+    pub(crate) fn terminal_start_code(self) -> Option<&'static str> {
+        match self {
+            Style::Plain => None,
+            Style::Wrong => Some("\x1b[31m"),
+            Style::Right => Some("\x1b[32m"),
+        }
     }
 }

@@ -1,7 +1,7 @@
 //! The reply that a postcondition wants.
 
 use crate::evaluating::{truth_of_expression_in_environment, value_of_expression_in_environment};
-use crate::words::expression_mentions_word;
+use crate::spelling::expression_mentions_word;
 use pst_eval::Env;
 use pst_model::{Binary, Expr, Source, Unary};
 use pst_value::Value;

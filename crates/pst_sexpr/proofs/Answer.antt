@@ -2,7 +2,7 @@
 use Rattle.std.proofs.Common.{◌≡◌, ℕ, ◌≤◌, Result, Ok, Err, List, length, sym, ◌∙◌, ◌⊎◌, inl, inr, ⊎_elim}
 use Rattle.std.specs.Result.{MatchResult, IfOk, IfErr}
 use Rattle.pst_sexpr.specs.declared.form.Form.{Form}
-use Rattle.pst_sexpr.specs.declared.fault.SexprFault.{SexprFault}
+use Rattle.pst_sexpr.specs.declared.reader.SexprFault.{SexprFault}
 use Rattle.pst_sexpr.specs.Fault.{Gives, no_memory}
 use Rattle.pst_sexpr.specs.Reading.{max_bytes, max_levels, Spells, IsFault}
 use Rattle.pst_sexpr.specs.Scan.{outcome, start}

@@ -3,7 +3,7 @@ use Rattle.std.proofs.Common.{◌≡◌, ℕ, ◌+◌, refl, sym, subst, arith, 
 use Rattle.std.proofs.lemmas.List.{append-nil}
 use Rattle.std.specs.Result.{IfOk}
 use Rattle.pst_sexpr.specs.declared.form.Form.{Form}
-use Rattle.pst_sexpr.specs.declared.fault.SexprFault.{SexprFault}
+use Rattle.pst_sexpr.specs.declared.reader.SexprFault.{SexprFault}
 use Rattle.pst_sexpr.specs.declared.levels.Level.{Level}
 use Rattle.pst_sexpr.specs.declared.scan.Mode.{Mode}
 use Rattle.pst_sexpr.specs.declared.scan.Mode.TheVariants.{Plain, Quoted, Escaped, Comment}
@@ -14,7 +14,7 @@ use Rattle.pst_sexpr.specs.Scan as spec
 use Rattle.pst_sexpr.specs.Scan.{step, step_by, run, finish, outcome, scanner, with_word, and_then, between, plain, quoted, escaped, opened, closed, closed_by}
 use Rattle.std.specs.Result.{MatchResult}
 use Rattle.std.proofs.lemmas.Result.{MatchResult-at_ok}
-use Rattle.pst_sexpr.specs.declared.fault.FaultKind.{FaultKind}
+use Rattle.pst_sexpr.specs.declared.reader.FaultKind.{FaultKind}
 use Rattle.pst_sexpr.specs.Scan.{finish_by, ends_plain}
 use Rattle.pst_sexpr.specs.Reading.{Unclosed, in_text, in_node, deeper}
 use Rattle.pst_sexpr.proofs.Sound.{join, Escapes-join, UpTo, extend, end_word, Holds, Holds_by, run_holds}

@@ -4,7 +4,7 @@ use Rattle.std.proofs.lemmas.Bool.Decides.{nat_tests}
 use Rattle.std.proofs.lemmas.List.{append-nil, take-append-drop, drop-drop, drop_at, drop_more, length-drop, length-append}
 use Rattle.std.specs.Str.{IsAscii}
 use Rattle.pst_sexpr.specs.declared.form.Form.{Form}
-use Rattle.pst_sexpr.specs.declared.fault.SexprFault.{SexprFault}
+use Rattle.pst_sexpr.specs.declared.reader.SexprFault.{SexprFault}
 use Rattle.pst_sexpr.specs.declared.levels.Level.{Level}
 use Rattle.pst_sexpr.specs.declared.scan.Mode.{Mode}
 use Rattle.pst_sexpr.specs.declared.scan.Mode.TheVariants.{Plain, Quoted, Escaped, Comment}

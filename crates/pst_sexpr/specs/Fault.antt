@@ -1,8 +1,8 @@
 -- Faults, and what a function answers that may be refused memory.
 use Rattle.std.specs.Prelude.{◌≡◌, ℕ, ◌⊎◌, List, Result, Ok, Err, ◌++◌, codes, decimal}
-use Rattle.pst_sexpr.specs.declared.fault.SexprFault.{SexprFault}
-use Rattle.pst_sexpr.specs.declared.fault.FaultKind.{FaultKind}
-use Rattle.pst_sexpr.specs.declared.fault.FaultKind.TheVariants.{BadByte, UnclosedText, UnclosedNode, StrayClose, TooDeep, TooLarge, NoMemory}
+use Rattle.pst_sexpr.specs.declared.reader.SexprFault.{SexprFault}
+use Rattle.pst_sexpr.specs.declared.reader.FaultKind.{FaultKind}
+use Rattle.pst_sexpr.specs.declared.reader.FaultKind.TheVariants.{BadByte, UnclosedText, UnclosedNode, StrayClose, TooDeep, TooLarge, NoMemory}
 
 -- the bytes of a kind's name
 abbrev pub name_of : FaultKind → List ℕ

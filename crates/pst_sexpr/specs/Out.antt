@@ -1,6 +1,6 @@
 -- What a contract reads of an `Out`.
 use Rattle.std.specs.Prelude.{Bool}
-use Rattle.pst_sexpr.specs.declared.out.Out.{Out}
+use Rattle.pst_sexpr.specs.declared.sink.Out.{Out}
 
 -- the writer that it gives its bytes to
 abbrev pub writer_of : {W : Type 0} → Out W → W

@@ -3,9 +3,9 @@
 use Rattle.std.specs.Prelude.{ℕ, suc, ◌==◌, nat_lt, if◌then◌else◌, List, [], ◌∷◌, ◌++◌, length, Result, Ok, Err}
 use Rattle.pst_sexpr.specs.declared.form.Form.{Form}
 use Rattle.pst_sexpr.specs.declared.form.Form.TheVariants.{Word, Text, Node}
-use Rattle.pst_sexpr.specs.declared.fault.SexprFault.{SexprFault}
-use Rattle.pst_sexpr.specs.declared.fault.FaultKind.{FaultKind}
-use Rattle.pst_sexpr.specs.declared.fault.FaultKind.TheVariants.{BadByte, UnclosedText, UnclosedNode, StrayClose, TooDeep}
+use Rattle.pst_sexpr.specs.declared.reader.SexprFault.{SexprFault}
+use Rattle.pst_sexpr.specs.declared.reader.FaultKind.{FaultKind}
+use Rattle.pst_sexpr.specs.declared.reader.FaultKind.TheVariants.{BadByte, UnclosedText, UnclosedNode, StrayClose, TooDeep}
 use Rattle.pst_sexpr.specs.declared.levels.Level.{Level}
 use Rattle.pst_sexpr.specs.declared.scan.Mode.{Mode}
 use Rattle.pst_sexpr.specs.declared.scan.Mode.TheVariants.{Plain, Quoted, Escaped, Comment}

@@ -1,7 +1,7 @@
 //! Laws of the grammar: each is the contract of an empty function.
 
 ghost use Rattle.std.specs.Prelude.{◌≡◌, ◌≤◌, ◌⊎◌, ℕ, List, length};
-ghost use Rattle.pst_sexpr.specs.declared.fault.SexprFault.{SexprFault};
+ghost use Rattle.pst_sexpr.specs.declared.reader.SexprFault.{SexprFault};
 ghost use Rattle.pst_sexpr.specs.declared.form.Form.{Form};
 ghost use Rattle.pst_sexpr.specs.Reading.{max_bytes, Spells, IsFault};
 

@@ -1,16 +1,15 @@
-//! One pass over the bytes, with a stack of the open nodes.
-
+//! One pass over the bytes, with a stack of the open nodes, and the bytes that a word or a text takes at once.
 ghost use Rattle.std.specs.Prelude.{◌≡◌, ◌⊎◌, ◌∷◌, ◌++◌, [], IsTrue, length, drop, ◌<◌, ◌≤◌, ℕ, IfOk, OnOk, MatchResult};
 ghost use Rattle.pst_sexpr.specs.Scan as spec;
 ghost use Rattle.pst_sexpr.specs.Fault.{Gives, no_memory};
-ghost use Rattle.pst_sexpr.specs.Spans.{IsSpan, IsSpanOf};
+ghost use Rattle.pst_sexpr.specs.Spans.{IsSpan, IsSpanOf, ArePlain};
+ghost use Rattle.std.specs.Str.{IsAscii};
+ghost use Rattle.pst_sexpr.specs.Grammar.{IsWordBytes};
 
 use crate::bytes::{is_blank, is_escaped_byte, is_text_byte, is_word_byte};
-use crate::fault::{FaultKind, SexprFault};
 use crate::form::Form;
 use crate::levels::{Level, Levels};
-use crate::limits::MAX_LEVELS;
-use crate::spans::{append_ascii, leading_unescaped_text_bytes, leading_word_bytes};
+use crate::reader::{FaultKind, MAX_LEVELS, SexprFault};
 use pst_value::{Items, Text};
 use std::alloc::{AllocError, Global};
 use std::mem;
@@ -308,4 +307,47 @@ pub fn forms(alloc: Global, bytes: &[u8]) -> Result<Items<Form>, SexprFault>
     ensures { Gives (λ trees. trees) result (spec.outcome MAX_LEVELS spec.start 0 bytes.now) }
 {
     scan(alloc, bytes)?.finish(alloc)
+}
+
+/// The word bytes at the front of `bytes`.
+fn leading_word_bytes(bytes: &[u8]) -> &[u8]
+    ensures class { IsWordBytes result.now }
+    ensures front { IsSpanOf bytes.now result.now }
+{
+    for (place, byte) in bytes.iter().enumerate() {
+        if !is_word_byte(*byte) {
+            return &bytes[..place];
+        }
+    }
+    bytes
+}
+
+/// The bytes at the front of `bytes` that a text may hold unescaped.
+fn leading_unescaped_text_bytes(bytes: &[u8]) -> &[u8]
+    ensures class { ArePlain result.now }
+    ensures front { IsSpanOf bytes.now result.now }
+{
+    for (place, byte) in bytes.iter().enumerate() {
+        if !is_text_byte(*byte) {
+            return &bytes[..place];
+        }
+    }
+    bytes
+}
+
+/// Appends `more` to `text`. An empty text gets exactly the room that it needs.
+fn append_ascii(alloc: Global, text: Text, more: &[u8]) -> Result<Text, AllocError>
+    requires { IsAscii more.now }
+    ensures { IfOk result (λ whole. whole ≡ text ++ more.now) }
+{
+    let more = match str::from_utf8(more) {
+        Ok(more) => more,
+        Err(_) => unreachable!(),
+    };
+    if text.is_empty() {
+        return Ok(Text::from_string(String::from_str(alloc, more)?));
+    }
+    let mut text = text.into_string();
+    text.push_str(more)?;
+    Ok(Text::from_string(text))
 }

@@ -1,15 +1,12 @@
 //! The writer of trees.
-
 ghost use Rattle.std.specs.Prelude.{◌≡◌, [], ◌∷◌, false, map};
 ghost use Rattle.pst_sexpr.specs.Spelling.{escape, escaped, gap, spaced, spelling};
 ghost use Rattle.pst_sexpr.specs.Reading.{Spells};
 ghost use Rattle.pst_sexpr.specs.Writing.{Writes};
 
 use crate::bytes::is_escaped_byte;
-use crate::form::Form;
-use crate::put::put_all;
-use crate::sink::{Sink, WriteFailed};
-use crate::tree::Tree;
+use crate::form::{Form, Tree};
+use crate::sink::{Sink, WriteFailed, put_all};
 
 /// Writes a byte of a text.
 fn write_byte_escaped_if_needed<W: Sink>(byte: u8, sink: &mut W) -> Result<(), WriteFailed>

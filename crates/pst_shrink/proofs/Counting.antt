@@ -9,8 +9,8 @@ use Rattle.pst_case.specs.declared.case.Case.{Case}
 use Rattle.pst_case.specs.declared.case.Command.{Command}
 use Rattle.pst_shrink.specs.Candidates.{others, branch_others, first_of_branches, first_of_suffix, without, moved}
 use Rattle.pst_shrink.specs.Number.{number_by, numbers_by, renumber_command}
-use Rattle.pst_shrink.specs.declared.renumbering.Renumbering.{Renumbering}
-use Rattle.pst_shrink.specs.declared.renumbering.Renumbering.TheVariants.{Without, Moved}
+use Rattle.pst_shrink.specs.declared.candidate.Renumbering.{Renumbering}
+use Rattle.pst_shrink.specs.declared.candidate.Renumbering.TheVariants.{Without, Moved}
 
 pub length-joined-nil : length (joined {A = Command} []) ≡ 0
 length-joined-nil = refl

@@ -6,14 +6,14 @@ use Rattle.std.proofs.lemmas.Option.{slice_get_read, slice_get_within, get_or_fr
 use Rattle.pst_shrink.specs.Candidates.{candidates}
 use Rattle.pst_shrink.specs.Shrinking.{FaultIsReal, ArePassed, IsTaken, IsEnd, first_of, IsTrail}
 use Rattle.pst_shrink.specs.Rounds.{IsRound}
-use Rattle.pst_shrink.specs.declared.attempt.AttemptOutcome.{AttemptOutcome}
-use Rattle.pst_shrink.specs.declared.attempt.AttemptOutcome.TheVariants.{Broke}
-use Rattle.pst_shrink.specs.declared.shrunk.FailingCase.{FailingCase}
-use Rattle.pst_shrink.specs.declared.shrunk.ShrinkEnd.{ShrinkEnd}
-use Rattle.pst_shrink.specs.declared.round.Round.{Round}
-use Rattle.pst_shrink.specs.declared.round.Round.TheVariants.{Took, Ended}
-use Rattle.pst_shrink.specs.declared.fault.ShrinkFault.{ShrinkFault}
-use Rattle.pst_shrink.specs.declared.fault.ShrinkFault.TheVariants.{«Attempt» as AttemptFault, NoMemory}
+use Rattle.pst_shrink.specs.declared.shrinking.AttemptOutcome.{AttemptOutcome}
+use Rattle.pst_shrink.specs.declared.shrinking.AttemptOutcome.TheVariants.{Broke}
+use Rattle.pst_shrink.specs.declared.shrinking.FailingCase.{FailingCase}
+use Rattle.pst_shrink.specs.declared.shrinking.ShrinkEnd.{ShrinkEnd}
+use Rattle.pst_shrink.specs.declared.shrinking.Round.{Round}
+use Rattle.pst_shrink.specs.declared.shrinking.Round.TheVariants.{Took, Ended}
+use Rattle.pst_shrink.specs.declared.shrinking.ShrinkFault.{ShrinkFault}
+use Rattle.pst_shrink.specs.declared.shrinking.ShrinkFault.TheVariants.{«Attempt» as AttemptFault, NoMemory}
 use Rattle.pst_shrink.specs.Weight.{weight}
 use Rattle.pst_shrink.proofs.Lesser.{lesser}
 

@@ -4,7 +4,7 @@ use Rattle.std.proofs.lemmas.List.{length-map}
 use Rattle.std.proofs.lemmas.List.Elements.{All-append, All-nil, All-cons}
 use Rattle.std.proofs.lemmas.Bool.{cond_both, eqb-false, cases_lt}
 use Rattle.pst_shrink.specs.Number.{renumber_command, numbers_by}
-use Rattle.pst_shrink.specs.declared.renumbering.Renumbering.TheVariants.{Without, Moved}
+use Rattle.pst_shrink.specs.declared.candidate.Renumbering.TheVariants.{Without, Moved}
 use Rattle.pst_case.specs.declared.case.Command.{Command}
 use Rattle.pst_case.specs.declared.case.Case.{Case}
 use Rattle.pst_shrink.specs.Candidates.{is_used, others, branch_others, first_of_branches, first_of_suffix, without, drops, moved, moves}

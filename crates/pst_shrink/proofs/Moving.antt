@@ -4,10 +4,10 @@ use Rattle.pst_case.specs.declared.case.Case.{Case}
 use Rattle.pst_shrink.specs.Candidates.{candidates}
 use Rattle.pst_shrink.specs.Outcomes.{Answers, passed_outcome}
 use Rattle.pst_shrink.specs.Shrinking.{ArePassed, IsTaken, first_of, IsTrail, IsShrunk}
-use Rattle.pst_shrink.specs.declared.attempt.AttemptOutcome.{AttemptOutcome}
-use Rattle.pst_shrink.specs.declared.attempt.AttemptOutcome.TheVariants.{Broke}
-use Rattle.pst_shrink.specs.declared.shrunk.FailingCase.{FailingCase}
-use Rattle.pst_shrink.specs.declared.shrunk.Shrunk.{Shrunk}
+use Rattle.pst_shrink.specs.declared.shrinking.AttemptOutcome.{AttemptOutcome}
+use Rattle.pst_shrink.specs.declared.shrinking.AttemptOutcome.TheVariants.{Broke}
+use Rattle.pst_shrink.specs.declared.shrinking.FailingCase.{FailingCase}
+use Rattle.pst_shrink.specs.declared.shrinking.Shrunk.{Shrunk}
 
 module _ {H : Type 0} (S R : Answers H) (to : (c : Case) (o : AttemptOutcome H) → S c o → R c o) where
   pub passed_moves : (cs : List Case) (ts : List (Option (List H))) → ArePassed S cs ts → ArePassed R cs ts

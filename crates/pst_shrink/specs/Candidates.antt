@@ -5,7 +5,7 @@ use Rattle.pst_case.specs.Shape.{before_suffix, commands_of}
 use Rattle.pst_case.specs.declared.case.Case.{Case}
 use Rattle.pst_case.specs.declared.case.Command.{Command}
 use Rattle.pst_shrink.specs.Number.{numbers_by, renumber_case}
-use Rattle.pst_shrink.specs.declared.renumbering.Renumbering.TheVariants.{Without, Moved}
+use Rattle.pst_shrink.specs.declared.candidate.Renumbering.TheVariants.{Without, Moved}
 use Rattle.pst_value.specs.Holds.{holds}
 
 -- ---- which commands are used

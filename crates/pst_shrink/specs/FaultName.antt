@@ -1,7 +1,7 @@
 -- The names of the kinds of faults.
 use Rattle.std.specs.Prelude.{ℕ, List, codes}
-use Rattle.pst_shrink.specs.declared.fault.ShrinkFault.{ShrinkFault}
-use Rattle.pst_shrink.specs.declared.fault.ShrinkFault.TheVariants.{Attempt, NoMemory}
+use Rattle.pst_shrink.specs.declared.shrinking.ShrinkFault.{ShrinkFault}
+use Rattle.pst_shrink.specs.declared.shrinking.ShrinkFault.TheVariants.{Attempt, NoMemory}
 
 -- the name of a fault's kind
 abbrev pub fault_name : {F : Type 0} → ShrinkFault F → List ℕ

@@ -4,8 +4,8 @@ use Rattle.std.specs.List.{range_with_len}
 use Rattle.pst_case.specs.declared.case.Case.{Case}
 use Rattle.pst_case.specs.declared.case.Command.{Command}
 use Rattle.pst_case.specs.Renumber.{new_number, renumbered_command}
-use Rattle.pst_shrink.specs.declared.renumbering.Renumbering.{Renumbering}
-use Rattle.pst_shrink.specs.declared.renumbering.Renumbering.TheVariants.{Without, Moved}
+use Rattle.pst_shrink.specs.declared.candidate.Renumbering.{Renumbering}
+use Rattle.pst_shrink.specs.declared.candidate.Renumbering.TheVariants.{Without, Moved}
 
 -- The new number of a command: where one is left out, those behind it come one earlier; where one moves to an
 -- earlier place, those from that place up to its old one come one later.

@@ -1,8 +1,8 @@
 -- What an attempt answers.
 use Rattle.std.specs.Prelude.{ℕ, ◌↔◌, List, Option, Some, None}
 use Rattle.pst_case.specs.declared.case.Case.{Case}
-use Rattle.pst_shrink.specs.declared.attempt.AttemptOutcome.{AttemptOutcome}
-use Rattle.pst_shrink.specs.declared.attempt.AttemptOutcome.TheVariants.{NotValid, Held, Broke}
+use Rattle.pst_shrink.specs.declared.shrinking.AttemptOutcome.{AttemptOutcome}
+use Rattle.pst_shrink.specs.declared.shrinking.AttemptOutcome.TheVariants.{NotValid, Held, Broke}
 
 -- how many valid cases were driven for the answer
 abbrev pub drives : {H : Type 0} → AttemptOutcome H → ℕ

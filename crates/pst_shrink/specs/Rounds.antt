@@ -4,8 +4,8 @@ use Rattle.pst_case.specs.declared.case.Case.{Case}
 use Rattle.pst_shrink.specs.Candidates.{candidates}
 use Rattle.pst_shrink.specs.Outcomes.{Answers}
 use Rattle.pst_shrink.specs.Shrinking.{ArePassed, IsTaken, IsEnd}
-use Rattle.pst_shrink.specs.declared.round.Round.{Round}
-use Rattle.pst_shrink.specs.declared.round.Round.TheVariants.{Took, Ended}
+use Rattle.pst_shrink.specs.declared.shrinking.Round.{Round}
+use Rattle.pst_shrink.specs.declared.shrinking.Round.TheVariants.{Took, Ended}
 
 -- What the candidates of a case came to, where the count of driven cases was `old` before and is `new` after:
 -- the first that broke and how many may still be driven, or none of those that were tried broke.

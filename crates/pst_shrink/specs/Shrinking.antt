@@ -3,13 +3,13 @@ use Rattle.std.specs.Prelude.{◌≡◌, ℕ, ◌+◌, ◌<◌, List, [], ◌∷
 use Rattle.pst_case.specs.declared.case.Case.{Case}
 use Rattle.pst_shrink.specs.Candidates.{candidates}
 use Rattle.pst_shrink.specs.Outcomes.{Answers, passed_outcome}
-use Rattle.pst_shrink.specs.declared.attempt.AttemptOutcome.TheVariants.{Broke}
-use Rattle.pst_shrink.specs.declared.fault.ShrinkFault.{ShrinkFault}
-use Rattle.pst_shrink.specs.declared.fault.ShrinkFault.TheVariants.{«Attempt» as AttemptFault, NoMemory}
-use Rattle.pst_shrink.specs.declared.shrunk.FailingCase.{FailingCase}
-use Rattle.pst_shrink.specs.declared.shrunk.ShrinkEnd.{ShrinkEnd}
-use Rattle.pst_shrink.specs.declared.shrunk.ShrinkEnd.TheVariants.{Minimal, Stopped}
-use Rattle.pst_shrink.specs.declared.shrunk.Shrunk.{Shrunk}
+use Rattle.pst_shrink.specs.declared.shrinking.AttemptOutcome.TheVariants.{Broke}
+use Rattle.pst_shrink.specs.declared.shrinking.ShrinkFault.{ShrinkFault}
+use Rattle.pst_shrink.specs.declared.shrinking.ShrinkFault.TheVariants.{«Attempt» as AttemptFault, NoMemory}
+use Rattle.pst_shrink.specs.declared.shrinking.FailingCase.{FailingCase}
+use Rattle.pst_shrink.specs.declared.shrinking.ShrinkEnd.{ShrinkEnd}
+use Rattle.pst_shrink.specs.declared.shrinking.ShrinkEnd.TheVariants.{Minimal, Stopped}
+use Rattle.pst_shrink.specs.declared.shrinking.Shrunk.{Shrunk}
 
 -- The first of these cases were tried and passed over, as many as have an entry in the other list: each is
 -- not valid (None), or was driven and its histories, which the entry has, hold.

@@ -2,20 +2,10 @@
 //! allocation failed.
 #![tactic(auto)]
 
-mod attempt;
 mod candidate;
-mod fault;
 mod laws;
-mod parts;
-mod renumbering;
-mod round;
 mod shrinking;
-mod shrunk;
 
-pub use attempt::{Attempt, AttemptOutcome};
-pub use candidate::candidates;
-pub use fault::ShrinkFault;
+pub use candidate::{Renumbering, candidates};
 pub use laws::candidates_are_lesser;
-pub use renumbering::Renumbering;
-pub use shrinking::shrink;
-pub use shrunk::{FailingCase, ShrinkEnd, Shrunk};
+pub use shrinking::{Attempt, AttemptOutcome, FailingCase, ShrinkEnd, ShrinkFault, Shrunk, shrink};

@@ -12,7 +12,7 @@ use Rattle.pst_sexpr.specs.Grammar.{Begins}
 use Rattle.pst_sexpr.specs.Parts.{node_of, and_then, tree_in}
 use Rattle.pst_sexpr.specs.Reading.{max_levels, Spells}
 use Rattle.pst_sources.specs.declared.scan.State.TheVariants.{Between}
-use Rattle.pst_sources.specs.declared.span.Span.{Span}
+use Rattle.pst_sources.specs.declared.scan.Span.{Span}
 use Rattle.pst_sources.specs.Paths.{begins_tree, BeginsTree, bytes_of, IsWithin, HasTree, tree_at}
 use Rattle.pst_sources.specs.Scanning.{blanks, tree_bytes, HasTreesFrom}
 use Rattle.pst_sources.proofs.First.{first, first_node, before_close}

@@ -1,7 +1,7 @@
 -- Where files begin in their text.
 use Rattle.std.proofs.Common.{◌≡◌, ◌∙◌, ◌<◌, ◌≤◌, ◌+◌, ℕ, zero, suc, List, [], ◌∷◌, ◌++◌, length, get_or, drop, refl, sym, ap, arith, length-append}
 use Rattle.pst_sources.specs.Files.{behind, text_of, start_of, length_of}
-use Rattle.pst_sources.specs.declared.files.SourceFile.{SourceFile}
+use Rattle.pst_sources.specs.declared.input.SourceFile.{SourceFile}
 
 -- behind some bytes and one more
 skip : (bytes : List ℕ) (more byte : ℕ) (text : List ℕ)

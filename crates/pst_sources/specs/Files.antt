@@ -1,7 +1,7 @@
 -- The text of an input that stands in several files, and places in it.
 use Rattle.std.specs.Prelude.{◌≡◌, ℕ, zero, suc, ◌+◌, ◌<◌, ◌≤◌, List, [], ◌∷◌, ◌++◌, length, drop}
-use Rattle.pst_sources.specs.declared.files.FilePlace.{FilePlace}
-use Rattle.pst_sources.specs.declared.files.SourceFile.{SourceFile}
+use Rattle.pst_sources.specs.declared.input.FilePlace.{FilePlace}
+use Rattle.pst_sources.specs.declared.input.SourceFile.{SourceFile}
 
 -- files one behind another, with a line end before each
 abbrev pub behind : List SourceFile → List ℕ

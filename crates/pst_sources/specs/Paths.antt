@@ -5,7 +5,7 @@ use Rattle.pst_sexpr.specs.declared.form.Form.{Form}
 use Rattle.pst_sexpr.specs.Bytes.{is_word_byte}
 use Rattle.pst_sexpr.specs.Parts.{and_then, tree_in}
 use Rattle.pst_sexpr.specs.Reading.{Spells}
-use Rattle.pst_sources.specs.declared.span.Span.{Span}
+use Rattle.pst_sources.specs.declared.scan.Span.{Span}
 
 -- the tree at a path in some trees: the number of one of them, from 0, and then a path in it
 abbrev pub tree_at : List ℕ → List Form → Option Form

@@ -8,31 +8,30 @@
 //! `AllocError` means that an allocation failed.
 #![tactic(auto)]
 
-mod chars;
-mod closed;
-mod files;
-mod find;
+mod brackets;
 mod input;
 mod laws;
 mod notice;
-mod open;
 mod scan;
 mod shown;
-mod span;
 
-pub use chars::char_and_length_at;
-pub use closed::{ClosedItem, head_of_first_item, item_closed_before_stray_bracket};
-pub use files::{FilePlace, SourceFile, find_file_of_place, joined_text_of_files};
-pub use find::{deepest_span_on_path_in_tree, span_at_path_or_whole_input};
-pub use input::{FilePart, Input, LastMessageLine};
+pub use brackets::{
+    ClosedItem, Unclosed, find_probably_unclosed_item, head_of_first_item,
+    item_closed_before_stray_bracket,
+};
+pub use input::{
+    FilePart, FilePlace, Input, LastMessageLine, SourceFile, find_file_of_place,
+    joined_text_of_files,
+};
 pub use laws::files_start_in_joined_text;
 pub use notice::{
     Notice, NoticePlace, Notices, notice_text, place_of_notice, text_of_notices_if_any,
 };
-pub use open::{Unclosed, find_probably_unclosed_item};
-pub use scan::{State, is_space, scan_state_after_byte, tree_at};
-pub use shown::{
-    LineStart, Place, count_on_to_line_start, place_of_span, place_of_span_on_line,
-    start_of_first_line,
+pub use scan::{
+    Span, State, deepest_span_on_path_in_tree, is_space, scan_state_after_byte,
+    span_at_path_or_whole_input, tree_at,
 };
-pub use span::Span;
+pub use shown::{
+    LineStart, Place, char_and_length_at, count_on_to_line_start, place_of_span,
+    place_of_span_on_line, start_of_first_line,
+};

@@ -1,8 +1,8 @@
 //! The errors and warnings about an input.
 
 use crate::input::{Input, LastMessageLine};
+use crate::scan::Span;
 use crate::shown::place_of_span;
-use crate::span::Span;
 use std::alloc::{AllocError, Global};
 
 /// An error or a warning.

@@ -9,8 +9,8 @@ use Rattle.pst_sexpr.specs.declared.form.Form.TheOpen.{Form-F}
 use Rattle.pst_sexpr.specs.Parts.{word_of, and_then}
 use Rattle.pst_syntax.specs.Heads.{rows, look_up, or_of_maps, head_of}
 use Rattle.pst_syntax.specs.declared.fault.FaultKind.TheVariants.{OverLimit}
-use Rattle.pst_syntax.specs.declared.heads.Head.{Head}
-use Rattle.pst_syntax.specs.declared.heads.Head.TheVariants as head
+use Rattle.pst_syntax.specs.declared.words.Head.{Head}
+use Rattle.pst_syntax.specs.declared.words.Head.TheVariants as head
 use Rattle.pst_syntax.specs.Reading.{Read, ◌>>=◌, each, are_few, ty_of, ty_parts}
 use Rattle.pst_syntax.specs.Shape.{TyShape, IntType, BoolType, TextType, CallType, TupleType, ListType, MapType, RefType, ty_headed, ty_node, ty_at, ty_shape}
 use Rattle.pst_syntax.proofs.Complete.{bind_ok, known_ok, within_ok, okay}

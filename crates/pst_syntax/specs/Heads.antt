@@ -3,8 +3,8 @@ use Rattle.std.specs.Prelude.{ℕ, Bool, true, false, if◌then◌else◌, List,
 use Rattle.std.specs.Str.{bytes_eq}
 use Rattle.pst_model.specs.declared.expr.Binary.TheVariants as binary
 use Rattle.pst_model.specs.declared.expr.Unary.TheVariants as unary
-use Rattle.pst_syntax.specs.declared.heads.Head.{Head}
-use Rattle.pst_syntax.specs.declared.heads.Head.TheVariants as head
+use Rattle.pst_syntax.specs.declared.words.Head.{Head}
+use Rattle.pst_syntax.specs.declared.words.Head.TheVariants as head
 
 -- THE TABLE OF HEAD WORDS, of expressions, types and clauses
 abbrev pub rows : List (List ℕ × Head)

@@ -2,7 +2,7 @@
 use Rattle.std.specs.Prelude.{◌&&◌, ◌||◌, not, ℕ, nat_le, Bool, true, false, List, length, Option, Some, None, codes}
 use Rattle.std.specs.Str.{bytes_eq}
 use Rattle.pst_model.specs.Names.{is_name}
-use Rattle.pst_syntax.specs.declared.heads.Head.{Head}
+use Rattle.pst_syntax.specs.declared.words.Head.{Head}
 use Rattle.pst_syntax.specs.Heads.{head_of}
 use Rattle.pst_syntax.specs.Limits.{max_name}
 

@@ -8,8 +8,8 @@ use Rattle.pst_value.specs.declared.key.KeyTy.{KeyTy}
 use Rattle.pst_value.specs.declared.key.KeyTy.TheVariants as kind
 use Rattle.pst_model.specs.declared.expr.Unary.{Unary as UnaryOp}
 use Rattle.pst_model.specs.declared.expr.Binary.{Binary as BinaryOp}
-use Rattle.pst_syntax.specs.declared.heads.Head.{Head}
-use Rattle.pst_syntax.specs.declared.heads.Head.TheVariants as head
+use Rattle.pst_syntax.specs.declared.words.Head.{Head}
+use Rattle.pst_syntax.specs.declared.words.Head.TheVariants as head
 use Rattle.pst_syntax.specs.Heads.{head_of}
 use Rattle.pst_syntax.specs.Names.{is_used}
 use Rattle.pst_syntax.specs.Places.{is_place}

@@ -2,10 +2,10 @@
 use Rattle.std.specs.Prelude.{Option, Some, None}
 use Rattle.pst_syntax.specs.declared.shape.Shape.{Shape as Borrowed}
 use Rattle.pst_syntax.specs.declared.shape.Shape.TheVariants as code
-use Rattle.pst_syntax.specs.declared.ty_shapes.TyShape.{TyShape as BorrowedTy}
-use Rattle.pst_syntax.specs.declared.ty_shapes.TyShape.TheVariants as ty
-use Rattle.pst_syntax.specs.declared.ty_shapes.ClauseShape.{ClauseShape as BorrowedClause}
-use Rattle.pst_syntax.specs.declared.ty_shapes.ClauseShape.TheVariants as clause
+use Rattle.pst_syntax.specs.declared.shape.TyShape.{TyShape as BorrowedTy}
+use Rattle.pst_syntax.specs.declared.shape.TyShape.TheVariants as ty
+use Rattle.pst_syntax.specs.declared.shape.ClauseShape.{ClauseShape as BorrowedClause}
+use Rattle.pst_syntax.specs.declared.shape.ClauseShape.TheVariants as clause
 use Rattle.pst_syntax.specs.Shape.{Shape, TyShape, ClauseShape}
 use Rattle.pst_syntax.specs.Shape as spec
 

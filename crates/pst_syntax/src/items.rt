@@ -1,5 +1,4 @@
 //! Reading items.
-
 ghost use Rattle.std.specs.Prelude.{◌≡◌};
 ghost use Rattle.std.specs.List.{list_any, count_by};
 ghost use Rattle.pst_syntax.specs.Items as spec;
@@ -14,10 +13,10 @@ use crate::item_shapes::{
     CallbackShape, FunShape, ItemShape, OpShape, ParamShape, callback_shape, item_shape,
     param_shape,
 };
-use crate::limits::{MAX_DECLARED, MAX_EXPR_LEVELS, MAX_PARTS, MAX_TY_LEVELS};
-use crate::names::{check_and_copy_declared_name, is_name, is_unreserved_name};
 use crate::read::read_expr;
+use crate::reader::{MAX_DECLARED, MAX_EXPR_LEVELS, MAX_PARTS, MAX_TY_LEVELS};
 use crate::types::read_ty;
+use crate::words::{check_and_copy_declared_name, is_name, is_unreserved_name};
 use pst_model::{Expr, Fun, Item, Op, Param};
 use pst_sexpr::Form;
 use pst_value::{Boxed, Items, Text, Ty};

@@ -1,5 +1,4 @@
 //! Reading expressions and clauses.
-
 ghost use Rattle.std.specs.Option.{ok_or};
 ghost use Rattle.std.specs.Prelude.{◌≡◌, ◌-◌, ◌<◌, Ok};
 ghost use Rattle.pst_model.specs.declared.expr.Expr as expr;
@@ -11,11 +10,10 @@ ghost use Rattle.pst_syntax.specs.Shape.{Fold, For, If, Let, ListOf, Put, Tuple}
 ghost use Rattle.pst_syntax.specs.Shown.{shown, shown_clause};
 
 use crate::fault::FaultKind;
-use crate::limits::{MAX_PARTS, MAX_TY_LEVELS};
-use crate::names::{check_and_copy_declared_name, is_unreserved_name, is_usable_operation_name};
-use crate::shape::{FoldShape, Shape, shape_of};
-use crate::ty_shapes::{ClauseShape, clause_shape};
+use crate::reader::{MAX_PARTS, MAX_TY_LEVELS};
+use crate::shape::{ClauseShape, FoldShape, Shape, clause_shape, shape_of};
 use crate::types::read_ty;
+use crate::words::{check_and_copy_declared_name, is_unreserved_name, is_usable_operation_name};
 use pst_model::{Clause, Expr};
 use pst_sexpr::{Form, value_of_integer_word};
 use pst_value::{Boxed, Items, LIMIT, Text, Ty};

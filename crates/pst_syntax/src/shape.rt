@@ -1,17 +1,16 @@
-//! What a tree is as an expression, one level deep.
-
-ghost use Rattle.std.specs.Prelude.{◌≡◌, ◌∷◌, [], option_copied};
+//! What a tree is as an expression, a type or a clause, one level deep.
+ghost use Rattle.std.specs.Prelude.{◌≡◌, ◌∷◌, [], option_copied, nat_lt};
 ghost use Rattle.pst_sexpr.specs.Parts.{where_true};
 ghost use Rattle.pst_syntax.specs.Places.{is_place};
-ghost use Rattle.pst_syntax.specs.declared.heads.Head.TheVariants as head;
+ghost use Rattle.pst_syntax.specs.declared.words.Head.TheVariants as head;
 ghost use Rattle.pst_syntax.specs.Shape as spec;
-ghost use Rattle.pst_syntax.specs.Shown.{shown_option};
+ghost use Rattle.pst_syntax.specs.Shown.{shown_option, shown_ty_option, shown_clause_option};
+ghost use Rattle.pst_sexpr.specs.Integers.{magnitude, value};
+ghost use Rattle.pst_syntax.specs.Places as places;
 
-use crate::heads::{Head, head_of};
-use crate::names::is_usable_name;
-use crate::place::is_tuple_place;
+use crate::words::{Head, head_of, is_usable_name};
 use pst_model as model;
-use pst_sexpr::{Form, is_integer, node_of, word_of};
+use pst_sexpr::{Form, is_integer, magnitude_of, node_of, word_of};
 use pst_value::{KeyTy, Text};
 
 /// An expression, whose parts are trees yet.
@@ -51,7 +50,7 @@ pub struct FoldShape<'a> {
 }
 
 /// The trees, or `None` if there are no trees.
-pub fn forms_unless_empty(forms: &[Form]) -> Option<&[Form]>
+fn forms_unless_empty(forms: &[Form]) -> Option<&[Form]>
     ensures { option_copied result ≡ spec.some_of forms.now }
 {
     match forms {
@@ -184,4 +183,111 @@ pub fn shape_of(has_maps: bool, form: &Form) -> Option<Shape<'_>>
         Form::Text(text) => Some(Shape::Quoted(text)),
         Form::Node(parts) => expression_shape_of_node(has_maps, parts.as_slice()),
     }
+}
+
+/// A type, whose parts are trees yet.
+#[derive(Drop)]
+pub enum TyShape<'a> {
+    Int,
+    Bool,
+    Text,
+    Call,
+    Tuple(&'a [Form]),
+    List(&'a Form),
+    Map(KeyTy, &'a Form),
+    Ref(&'a Form),
+}
+
+/// A clause, whose parts are trees yet.
+#[derive(Drop)]
+pub enum ClauseShape<'a> {
+    In(&'a Text, &'a Form),
+    When(&'a Form),
+}
+
+fn type_shape_of_word(word: &str) -> Option<TyShape<'_>>
+    ensures { shown_ty_option result ≡ spec.ty_word word.now }
+{
+    if word == "int" {
+        Some(TyShape::Int)
+    } else if word == "bool" {
+        Some(TyShape::Bool)
+    } else if word == "text" {
+        Some(TyShape::Text)
+    } else if word == "call" {
+        Some(TyShape::Call)
+    } else {
+        None
+    }
+}
+
+fn type_shape_of_node(has_maps: bool, parts: &[Form]) -> Option<TyShape<'_>>
+    ensures { shown_ty_option result ≡ spec.ty_node has_maps parts.now }
+{
+    let (first, parts) = parts.split_first()?;
+    match (head_of(has_maps, word_of(first)?.as_str())?, parts) {
+        (Head::Tuple, types) => Some(TyShape::Tuple(forms_unless_empty(types)?)),
+        (Head::List, [ty]) => Some(TyShape::List(ty)),
+        (Head::Map, [key, value]) => Some(TyShape::Map(read_key_type(key)?, value)),
+        (Head::Ref, [ty]) => Some(TyShape::Ref(ty)),
+        _ => None,
+    }
+}
+
+/// Which form of type a tree has, in the language with or without maps.
+#[tactic(auto, unfolding(crate::specs::Shape::ty_shape))]
+pub fn ty_shape(has_maps: bool, form: &Form) -> Option<TyShape<'_>>
+    ensures { shown_ty_option result ≡ spec.ty_shape has_maps form.now }
+{
+    match form {
+        Form::Word(word) => type_shape_of_word(word.as_str()),
+        Form::Text(_) => None,
+        Form::Node(parts) => type_shape_of_node(has_maps, parts.as_slice()),
+    }
+}
+
+fn clause_shape_of_node(parts: &[Form]) -> Option<ClauseShape<'_>>
+    ensures { shown_clause_option result ≡ spec.clause_node parts.now }
+{
+    let (first, parts) = parts.split_first()?;
+    match (head_of(false, word_of(first)?.as_str())?, parts) {
+        (Head::In, [name, list]) => Some(ClauseShape::In(word_of(name)?, list)),
+        (Head::When, [test]) => Some(ClauseShape::When(test)),
+        _ => None,
+    }
+}
+
+/// Which form of clause a tree has, in both languages.
+#[tactic(auto, unfolding(crate::specs::Shape::clause_shape))]
+pub fn clause_shape(form: &Form) -> Option<ClauseShape<'_>>
+    ensures { shown_clause_option result ≡ spec.clause_shape form.now }
+{
+    clause_shape_of_node(node_of(form)?)
+}
+
+/// Whether the number that digits spell is not 0.
+fn is_nonzero(digits: &[u8]) -> bool
+    ensures { result ≡ nat_lt 0 (magnitude 0 digits.now) }
+{
+    match magnitude_of(digits) {
+        Some(number) => number != 0,
+        None => true,
+    }
+}
+
+#[tactic(auto, unfolding(pst_sexpr::specs::Integers::value))]
+fn is_positive_integer_word(word: &[u8]) -> bool
+    ensures { result ≡ places.is_positive (value word.now) }
+{
+    match word {
+        [] => false,
+        [first, ..] => *first != b'-' && is_nonzero(word),
+    }
+}
+
+/// Whether a word is the place of an item of a tuple: an integer from 1 on, of any size.
+fn is_tuple_place(word: &Text) -> bool
+    ensures { result ≡ places.is_place word.now }
+{
+    is_integer(word) && is_positive_integer_word(word.as_bytes())
 }

@@ -1,12 +1,11 @@
 //! Reading types.
-
 ghost use Rattle.pst_syntax.specs.Reading as spec;
 ghost use Rattle.pst_syntax.specs.Reading.{Gives};
 ghost use Rattle.pst_syntax.specs.Shown.{shown_ty};
 
 use crate::fault::FaultKind;
-use crate::limits::MAX_PARTS;
-use crate::ty_shapes::{TyShape, ty_shape};
+use crate::reader::MAX_PARTS;
+use crate::shape::{TyShape, ty_shape};
 use pst_sexpr::Form;
 use pst_value::{Boxed, Items, Ty};
 use std::alloc::Global;

@@ -1,5 +1,4 @@
 //! The faults of expressions and clauses, with their places.
-
 ghost use Rattle.std.specs.Prelude.{◌≡◌, ◌∷◌, [], ◌≤◌, OnOk, map};
 ghost use Rattle.pst_syntax_problems.specs.Kept.{keep};
 ghost use Rattle.pst_syntax_problems.specs.Placed as spec;
@@ -9,15 +8,14 @@ ghost use Rattle.pst_syntax.specs.Faults.{Clause, Expression};
 ghost use Rattle.pst_syntax.specs.Shape.{At, Call, Fold, For, Let, ListOf};
 ghost use Rattle.pst_syntax.specs.Shown.{shown};
 
-use crate::fault::Role;
+use crate::fault::{
+    AddingResult, FaultSearch, Faults, Role, push_fault_unless, push_fault_within_limit,
+};
 use crate::part_faults::{
     add_bound_name_faults, add_map_value_type_faults, add_operation_name_faults,
     add_tuple_place_faults, is_expression_shape_within_limits,
 };
 use crate::problem::path_to_part;
-use crate::telling::{
-    AddingResult, FaultSearch, Faults, push_fault_unless, push_fault_within_limit,
-};
 use crate::type_faults::add_type_faults_at_part;
 use pst_sexpr::Form;
 use pst_syntax::{ClauseShape, FaultKind, FoldShape, MAX_TY_LEVELS, Shape, clause_shape, shape_of};

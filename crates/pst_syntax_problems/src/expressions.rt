@@ -4,12 +4,11 @@ use crate::forms::{
     HeadedForm, find_expression_form, find_type_form, hint_for_foreign_word,
     nearest_expression_head_hint,
 };
-use crate::found_problem::{
-    FoundProblem, missing_name_problem, missing_operation_name_problem, problem_at,
+use crate::problem::{
+    FoundProblem, missing_name_problem, missing_operation_name_problem, path_to_part, problem_at,
     problem_at_part, problem_with_hint_if_foreign_word, problem_with_note,
     problem_with_note_at_part, with_hint_if_opens_single_quote, with_note,
 };
-use crate::problem::path_to_part;
 use crate::tree::head_word_of_node;
 use crate::writing::counted_noun;
 use pst_sexpr::{Form, is_integer, word_of};

@@ -1,5 +1,4 @@
 //! The faults of items, with their places.
-
 ghost use Rattle.std.specs.Prelude.{◌≡◌, ◌++◌, not, OnOk, map};
 ghost use Rattle.pst_syntax_problems.specs.Kept.{keep};
 ghost use Rattle.pst_syntax_problems.specs.Placed.{below, known_at, placed, unless_at};
@@ -10,20 +9,17 @@ ghost use Rattle.pst_syntax.specs.Faults.{name_faults};
 ghost use Rattle.pst_syntax.specs.ShownItems.{shown_item_option};
 ghost use Rattle.pst_syntax.specs.declared.fault.FaultKind.TheVariants.{DoubleName, OverLimit};
 
-use crate::callback_faults::add_faults_of_callbacks_and_missing_ones;
-use crate::fault::Role;
-use crate::param_faults::add_parameter_list_faults;
+use crate::fault::{
+    AddingResult, DeclaredName, FaultSearch, Faults, Role, push_fault_unless,
+    push_fault_within_limit, push_name_faults_at_part,
+};
+use crate::item_part_faults::{
+    add_faults_of_callbacks_and_missing_ones, add_outermost_expression_faults,
+    add_outermost_type_faults, add_parameter_list_faults, add_repetition_and_expression_faults,
+};
 use crate::seen_items::{
     has_command_item_shape, has_function_named, has_init_item_shape, has_operation_named,
     has_room_for_function, has_room_for_operation, has_state_item_shape,
-};
-use crate::telling::{
-    AddingResult, DeclaredName, FaultSearch, Faults, push_fault_unless, push_fault_within_limit,
-    push_name_faults_at_part,
-};
-use crate::whole_faults::{
-    add_outermost_expression_faults, add_outermost_type_faults,
-    add_repetition_and_expression_faults,
 };
 use pst_sexpr::Form;
 use pst_syntax::{FaultKind, FunShape, ItemShape, OpShape, is_name, is_unreserved_name};

@@ -1,10 +1,6 @@
 //! What messages say of refused items and of their parts.
 
 use crate::forms::hint_for_foreign_word;
-use crate::found_problem::{
-    FoundProblem, missing_name_problem, problem_at, problem_at_part, problem_with_note,
-    problem_with_note_at_part, with_note,
-};
 use crate::infix::{
     ASSIGNMENT, assigned_trees_if_assignment, is_model_or_foreign_operator,
     operator_first_text_of_infix_parts, operators_come_first_phrase,
@@ -14,7 +10,10 @@ use crate::item_forms::{
     item_head_for_foreign_word,
 };
 use crate::names::{DidYouMean, NearestNameSoFar, push_name};
-use crate::problem::{Problem, path_to_part};
+use crate::problem::{
+    FoundProblem, Problem, missing_name_problem, path_to_part, problem_at, problem_at_part,
+    problem_with_note, problem_with_note_at_part, with_note,
+};
 use crate::tree::{has_head, head_word_of_node};
 use crate::writing::{CommaSeparatedNames, counted_noun, shortened_tree_text};
 use pst_sexpr::{Form, node_of};

@@ -1,5 +1,4 @@
 //! The faults of a model, with their places.
-
 ghost use Rattle.std.specs.Prelude.{◌≡◌, [], nat_le, IfOk, OnOk, take};
 ghost use Rattle.pst_syntax_problems.specs.Kept.{keep};
 ghost use Rattle.pst_syntax_problems.specs.Placed.{unless_at};
@@ -10,14 +9,13 @@ ghost use Rattle.pst_syntax.specs.ItemShape.{model_shape};
 ghost use Rattle.pst_syntax.specs.Limits.{max_trees};
 ghost use Rattle.pst_syntax.specs.declared.fault.FaultKind.TheVariants.{OverLimit};
 
-use crate::fault::{FormFault, Role};
+use crate::fault::{
+    AddingResult, DeclaredName, FaultSearch, Faults, FormFault, Role, push_fault_unless,
+    push_fault_within_limit, push_name_faults_at_part,
+};
 use crate::item_faults::add_item_faults;
 use crate::problem::path_to_part;
 use crate::seen_items::has_required_items;
-use crate::telling::{
-    AddingResult, DeclaredName, FaultSearch, Faults, push_fault_unless, push_fault_within_limit,
-    push_name_faults_at_part,
-};
 use pst_sexpr::{Form, Tree};
 use pst_syntax::{FaultKind, MAX_TREES, is_name, item_shape, model_shape, room_left_after_tree};
 use pst_value::Items;

@@ -1,5 +1,4 @@
 //! The faults of the parts of expressions that are no expressions, with their places.
-
 ghost use Rattle.std.specs.Prelude.{◌≡◌, ◌∷◌, [], OnOk};
 ghost use Rattle.pst_syntax_problems.specs.Kept.{keep};
 ghost use Rattle.pst_syntax_problems.specs.Placed as spec;
@@ -9,11 +8,11 @@ ghost use Rattle.pst_syntax.specs.Faults.{Declared, OfType, Operation, Place, fi
 ghost use Rattle.pst_syntax.specs.Names.{is_free};
 ghost use Rattle.pst_syntax.specs.Shown.{shown};
 
-use crate::fault::Role;
-use crate::problem::path_to_part;
-use crate::telling::{
-    AddingResult, DeclaredName, FaultSearch, Faults, push_fault_unless, push_name_faults_at_part,
+use crate::fault::{
+    AddingResult, DeclaredName, FaultSearch, Faults, Role, push_fault_unless,
+    push_name_faults_at_part,
 };
+use crate::problem::path_to_part;
 use crate::type_faults::add_type_faults_at_part;
 use pst_sexpr::{Form, value_of_integer_word};
 use pst_syntax::{

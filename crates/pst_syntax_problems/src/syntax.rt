@@ -4,18 +4,17 @@ use crate::expressions::{
     problem_of_bad_tuple_place, refused_expression_problem, too_deep_expression_problem,
 };
 use crate::fault::{FormFault, Role};
-use crate::found_problem::{
-    FoundProblem, missing_name_problem, missing_operation_name_problem, problem_at,
-    problem_of_bad_name, problem_of_too_long_name, problem_with_note, problem_with_note_at_part,
-    push_problem_if_any,
-};
 use crate::items::{
     malformed_parameter_problem, missing_callbacks_problem, not_a_comprehension_clause_problem,
     problem_of_too_many_parameters, refused_callback_problem, refused_model_item_problem,
 };
 use crate::model_faults::model_syntax_faults;
 use crate::names::{DidYouMean, NearestNameSoFar, push_name};
-use crate::problem::{MOST_PROBLEMS, Problem};
+use crate::problem::{
+    FoundProblem, MOST_PROBLEMS, Problem, missing_name_problem, missing_operation_name_problem,
+    problem_at, problem_of_bad_name, problem_of_too_long_name, problem_with_note,
+    problem_with_note_at_part, push_problem_if_any,
+};
 use crate::slips::{add_or_replace_notes_if_foreign_syntax, with_hint_if_malformed_word_or_part};
 use crate::tree::{has_head, head_word_of_node};
 use crate::types::{

@@ -1,5 +1,4 @@
 //! The faults of types, with their places.
-
 ghost use Rattle.std.specs.Prelude.{◌≡◌, ◌∷◌, [], ◌≤◌, OnOk, map};
 ghost use Rattle.pst_syntax_problems.specs.Kept.{keep};
 ghost use Rattle.pst_syntax_problems.specs.Placed as spec;
@@ -7,11 +6,10 @@ ghost use Rattle.pst_syntax_problems.specs.Placed.{all_at, none_at, spots_from, 
 ghost use Rattle.pst_syntax.specs.Faults.{OfType, ty_fits};
 ghost use Rattle.pst_syntax.specs.Shown.{shown_ty};
 
-use crate::fault::Role;
-use crate::problem::path_to_part;
-use crate::telling::{
-    AddingResult, FaultSearch, Faults, push_fault_unless, push_fault_within_limit,
+use crate::fault::{
+    AddingResult, FaultSearch, Faults, Role, push_fault_unless, push_fault_within_limit,
 };
+use crate::problem::path_to_part;
 use pst_sexpr::Form;
 use pst_syntax::{FaultKind, MAX_PARTS, TyShape, ty_shape};
 

@@ -5,13 +5,12 @@ use crate::expressions::{
     type_tree_contains_value,
 };
 use crate::forms::{find_type_form, hint_for_foreign_word, is_head_of_map_form};
-use crate::found_problem::{
-    FoundProblem, problem_at, problem_with_hint_if_foreign_word, problem_with_note,
-    problem_with_note_at_part, with_note,
-};
 use crate::item_forms::{OPERATION, is_callback_head};
 use crate::names::{DidYouMean, NearestNameSoFar};
-use crate::problem::{Problem, path_to_part};
+use crate::problem::{
+    FoundProblem, Problem, path_to_part, problem_at, problem_with_hint_if_foreign_word,
+    problem_with_note, problem_with_note_at_part, with_note,
+};
 use crate::tree::has_head;
 use crate::writing::shortened_tree_text;
 use pst_sexpr::{Form, node_of, tree_in, word_of};

@@ -1,7 +1,7 @@
 -- What stays of a system, whatever is called.
 use Rattle.std.specs.Prelude.{◌↔◌}
-use Rattle.pst_system.specs.declared.call.CallFault.{CallFault}
-use Rattle.pst_system.specs.declared.call.RealCall.{RealCall}
+use Rattle.pst_system.specs.declared.system.CallFault.{CallFault}
+use Rattle.pst_system.specs.declared.system.RealCall.{RealCall}
 use Rattle.pst_value.specs.declared.value.Value.{Value}
 
 -- which values a system may answer to a call

@@ -1,8 +1,8 @@
 -- the relations of a system that promises nothing
 pub mod Promises
 -- what relations of one's own speak of
-pub use Rattle.pst_system.specs.declared.call.RealCall
-pub use Rattle.pst_system.specs.declared.call.CallFault
+pub use Rattle.pst_system.specs.declared.system.RealCall
+pub use Rattle.pst_system.specs.declared.system.CallFault
 pub use Rattle.pst_value.specs.declared.value.Value
 -- what the contracts of systems cite
 pub use Rattle.pst_system.specs.Kept

@@ -1,7 +1,7 @@
 -- The relations of a system that promises nothing of its answers.
 use Rattle.std.specs.Prelude.{⊤}
-use Rattle.pst_system.specs.declared.call.RealCall.{RealCall}
-use Rattle.pst_system.specs.declared.call.CallFault.{CallFault}
+use Rattle.pst_system.specs.declared.system.RealCall.{RealCall}
+use Rattle.pst_system.specs.declared.system.CallFault.{CallFault}
 use Rattle.pst_value.specs.declared.value.Value.{Value}
 
 -- any value to any call

@@ -7,22 +7,14 @@
 #[cfg(test)]
 mod codes;
 #[cfg(test)]
-mod collections;
-#[cfg(test)]
 mod copies;
 #[cfg(test)]
 mod merges;
 #[cfg(test)]
 mod parts;
 #[cfg(test)]
-mod renumbered;
-pub mod short;
-#[cfg(test)]
 mod shrunk;
 pub mod support;
-pub mod systems;
-#[cfg(test)]
-mod trees;
 #[cfg(test)]
 mod values;
 #[cfg(test)]

@@ -44,9 +44,9 @@ impl Steps for Lamp {
     ghost use Rattle.std.specs.Prelude.{◌==◌, ◌&&◌, not, if◌then◌else◌, true, false};
     ghost use Rattle.std.proofs.Common.{refl, rules};
     ghost use Rattle.std.specs.Hash.{bool};
-    ghost use Rattle.pst_grid.specs.declared.answer.Ending.TheVariants.{AllTrue, StopsAt};
-    ghost use Rattle.pst_grid.specs.declared.answer.StepOutcome.TheVariants.{Next, Stop};
-    ghost use Rattle.pst_grid.specs.declared.answer.StopReason.TheVariants.{False, Fault};
+    ghost use Rattle.pst_grid.specs.declared.steps.Ending.TheVariants.{AllTrue, StopsAt};
+    ghost use Rattle.pst_grid.specs.declared.steps.StepOutcome.TheVariants.{Next, Stop};
+    ghost use Rattle.pst_grid.specs.declared.steps.StopReason.TheVariants.{False, Fault};
 
     type State = bool;
 

@@ -1,5 +1,4 @@
 //! Shrinking: lists of candidates that were worked out by hand, and cases that are shrunk.
 
 mod cases;
-mod lists;
-mod searches;
+mod shrinking;

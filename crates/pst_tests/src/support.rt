@@ -1,8 +1,13 @@
-//! What the crates of tests share: models, and the reading of a model.
+//! What the crates of tests share: models and the reading of one, systems that answer wrongly, and a failing writer.
+ghost use Rattle.std.specs.Prelude.{◌≡◌, Bool, List, ℕ, Option, Some, false};
 
 use pst_model::Typed;
+use pst_sexpr::{Failed, Sink};
+use pst_system::{CallFault, RealCall, System};
 use pst_typing::load;
+use pst_value::Value;
 use std::alloc::Global;
+use std::sync::atomic::{AtomicI64, Ordering};
 
 /// A counter: `inc` adds one and answers the new number, `get` answers it.
 pub const COUNTER: &str = "(model counter (state int) (init 0)
@@ -54,4 +59,141 @@ pub const SAYING: &str = "(model say (state int) (init 0)
 pub fn typed_model_of_text(alloc: Global, text: &str) -> Option<Typed> {
     let file = load(alloc, text.as_bytes()).ok()?.ok()?;
     Some(file.typed)
+}
+
+/// A system that answers `true` to every call.
+#[derive(Drop)]
+pub struct Liar;
+
+impl System for Liar {
+    ghost use Rattle.std.specs.Prelude.{⊤};
+
+    ghost answers = { λ _ _ _. ⊤ };
+
+    ghost fails = { λ _ _ _. ⊥ };
+
+    ghost reset_fails = { λ _ _. ⊥ };
+
+    fn reset(&mut self) -> Result<(), CallFault> {
+        Ok(())
+    }
+
+    fn call(&self, _call: &RealCall) -> Result<Value, CallFault> {
+        Ok(Value::Bool(true))
+    }
+}
+
+/// A counter that refuses all calls but `inc`.
+#[derive(Drop)]
+pub struct CounterWithoutGet {
+    count: AtomicI64,
+}
+
+impl CounterWithoutGet {
+    /// Returns a counter at 0.
+    pub fn new() -> CounterWithoutGet {
+        CounterWithoutGet {
+            count: AtomicI64::new(0),
+        }
+    }
+}
+
+impl System for CounterWithoutGet {
+    ghost use Rattle.std.specs.Prelude.{⊤};
+
+    ghost answers = { λ _ _ _. ⊤ };
+
+    ghost fails = { λ _ _ _. ⊤ };
+
+    ghost reset_fails = { λ _ _. ⊥ };
+
+    fn reset(&mut self) -> Result<(), CallFault> {
+        self.count.store(0, Ordering::SeqCst);
+        Ok(())
+    }
+
+    fn call(&self, call: &RealCall) -> Result<Value, CallFault> {
+        if call.name.as_str() != "inc" {
+            return Err(CallFault::Refused);
+        }
+        let before = self.count.fetch_add(1, Ordering::SeqCst);
+        Ok(Value::Int(before.saturating_add(1)))
+    }
+}
+
+/// A system that answers 0 to every call, and refuses every reset after the first `left`.
+#[derive(Drop)]
+pub struct LimitedResets {
+    left: u32,
+}
+
+impl LimitedResets {
+    /// Returns a system that can be reset `left` times.
+    pub fn new(left: u32) -> LimitedResets {
+        LimitedResets { left }
+    }
+}
+
+impl System for LimitedResets {
+    ghost use Rattle.std.specs.Prelude.{⊤};
+
+    ghost answers = { λ _ _ _. ⊤ };
+
+    ghost fails = { λ _ _ _. ⊥ };
+
+    ghost reset_fails = { λ _ _. ⊤ };
+
+    fn reset(&mut self) -> Result<(), CallFault> {
+        if self.left == 0 {
+            return Err(CallFault::Refused);
+        }
+        self.left -= 1;
+        Ok(())
+    }
+
+    fn call(&self, _call: &RealCall) -> Result<Value, CallFault> {
+        Ok(Value::Int(0))
+    }
+}
+
+/// A writer that takes `room` bytes, one at a time, and then fails.
+#[derive(Drop)]
+pub struct LimitedSink {
+    pub bytes: Vec<u8>,
+    pub room: usize,
+    pub failed: bool,
+}
+
+impl LimitedSink {
+    /// Returns a writer that fails after `room` bytes.
+    pub fn new(alloc: Global, room: usize) -> LimitedSink
+        ensures { result.failed ≡ false }
+    {
+        LimitedSink {
+            bytes: Vec::new(alloc),
+            room,
+            failed: false,
+        }
+    }
+}
+
+impl Sink for LimitedSink {
+    ghost taken = { λ short. Some short.bytes.items };
+
+    ghost broken = { λ short. short.failed };
+
+    fn put(&mut self, bytes: &[u8]) -> Result<usize, Failed> {
+        if bytes.is_empty() {
+            return Ok(0);
+        }
+        if self.bytes.len() >= self.room || self.bytes.push(bytes[0]).is_err() {
+            self.failed = true;
+            return Err(Failed);
+        }
+        Ok(1)
+    }
+
+    fn has_failed(&self) -> bool {
+        self.failed
+    }
 }

@@ -1,8 +1,7 @@
 //! Cases driven on systems that tests make.
 ghost use Rattle.std.specs.Prelude.{◌≡◌};
 
-use crate::echo::Echo;
-use crate::hostile::{CountedOddAnswers, MeetingFlags};
+use crate::test_systems::{CountedOddAnswers, Echo, MeetingFlags};
 use pst_case::{Case, History, Run, shape};
 use pst_driver::{DriveFault, run};
 use pst_eval::Plain;
@@ -11,8 +10,7 @@ use pst_model::Typed;
 use pst_runs::read_runs;
 use pst_sexpr::read;
 use pst_system::BoxedSystem;
-use pst_tests::support::{COUNTER, MEETING, SAYING, typed_model_of_text};
-use pst_tests::systems::{CounterWithoutGet, Liar};
+use pst_tests::support::{COUNTER, CounterWithoutGet, Liar, MEETING, SAYING, typed_model_of_text};
 use std::alloc::Global;
 use std::sync::Wait;
 use std::test::Fail;

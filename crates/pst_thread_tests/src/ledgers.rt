@@ -1,6 +1,4 @@
 //! The ledgers: the answers to rows of calls, and threads that share one.
 
-mod notes;
 mod rows;
 mod seats;
-mod threads;

@@ -6,10 +6,6 @@ mod clients;
 #[cfg(test)]
 mod driving;
 #[cfg(test)]
-mod echo;
-#[cfg(test)]
-mod hostile;
-#[cfg(test)]
 mod ledgers;
 #[cfg(test)]
 mod overhearing;
@@ -17,5 +13,7 @@ mod overhearing;
 mod samples;
 #[cfg(test)]
 mod systems;
+#[cfg(test)]
+mod test_systems;
 #[cfg(test)]
 mod trials;

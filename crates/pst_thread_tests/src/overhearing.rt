@@ -1,11 +1,10 @@
 //! Systems whose misfits are recorded.
 
 use crate::driving::has_recorded_replies_when_driven;
-use crate::hostile::CountedOddAnswers;
+use crate::test_systems::CountedOddAnswers;
 use pst_driver::{MOST_KEPT, MisfitRecorder, Misfits, misfit_lines_text};
 use pst_system::BoxedSystem;
-use pst_tests::support::{COUNTER, SAYING};
-use pst_tests::systems::{CounterWithoutGet, Liar};
+use pst_tests::support::{COUNTER, CounterWithoutGet, Liar, SAYING};
 use pst_typing::load;
 use std::alloc::{AllocError, Global};
 use std::sync::{Arc, Wait};

@@ -1,7 +1,5 @@
 //! Trials of plans on systems.
 
-mod early;
-mod ended;
+mod campaigns;
 mod plans;
 mod shrinking;
-mod working;

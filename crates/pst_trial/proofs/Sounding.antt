@@ -7,16 +7,16 @@ use Rattle.pst_case.specs.declared.history.History.{History}
 use Rattle.pst_model.specs.declared.model.Source.{Source}
 use Rattle.pst_shrink.proofs.Moving.{shrunk_moves}
 use Rattle.pst_shrink.specs.Weight.{weight}
-use Rattle.pst_shrink.specs.declared.attempt.AttemptOutcome.TheVariants.{Held, Broke}
-use Rattle.pst_shrink.specs.declared.shrunk.Shrunk.{Shrunk}
+use Rattle.pst_shrink.specs.declared.shrinking.AttemptOutcome.TheVariants.{Held, Broke}
+use Rattle.pst_shrink.specs.declared.shrinking.Shrunk.{Shrunk}
 use Rattle.pst_trial.specs.Moving.{answer_moves, answer_moves_in}
 use Rattle.pst_trial.specs.Driving.{Histories}
 use Rattle.pst_trial.specs.JudgedRuns.{is_explained, IsJudgedRun, AreExplained, IsAnswer}
 use Rattle.pst_trial.specs.PlanView.{PlanView}
 use Rattle.pst_trial.specs.Sound.{IsTrialCase, IsFailure, IsTried, IsSoundBy, IsSound}
-use Rattle.pst_trial.specs.declared.outcome.TrialOutcome.{TrialOutcome}
-use Rattle.pst_trial.specs.declared.outcome.TrialOutcome.TheVariants.{GenFaulted, Passed, Failed}
-use Rattle.pst_trial.specs.declared.run.JudgedRun.{JudgedRun}
+use Rattle.pst_trial.specs.declared.record.TrialOutcome.{TrialOutcome}
+use Rattle.pst_trial.specs.declared.record.TrialOutcome.TheVariants.{GenFaulted, Passed, Failed}
+use Rattle.pst_trial.specs.declared.record.JudgedRun.{JudgedRun}
 
 -- one explained run more
 pub explained_more : (D : Histories) (m : Source) (c : Case) (rs : List JudgedRun) (r : JudgedRun)

@@ -2,7 +2,7 @@
 use Rattle.std.specs.Prelude.{◌↔◌}
 use Rattle.pst_case.specs.OfModel.{OfModel}
 use Rattle.pst_case.specs.declared.history.History.{History}
-use Rattle.pst_driver.specs.declared.fault.DriveFault.{DriveFault}
+use Rattle.pst_driver.specs.declared.driving.DriveFault.{DriveFault}
 
 -- which histories may be recorded of a case
 abbrev pub Histories : Type 1

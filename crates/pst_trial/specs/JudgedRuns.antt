@@ -3,17 +3,17 @@ use Rattle.std.specs.Prelude.{◌≡◌, ◌⊎◌, ℕ, ◌<◌, Bool, true, fa
 use Rattle.pst_case.specs.Matches.{matches}
 use Rattle.pst_case.specs.OfModel.{OfModel}
 use Rattle.pst_case.specs.declared.case.Case.{Case}
-use Rattle.pst_driver.specs.declared.fault.DriveFault.{DriveFault}
-use Rattle.pst_driver.specs.declared.fault.DriveFault.TheVariants.{NoMemory}
+use Rattle.pst_driver.specs.declared.driving.DriveFault.{DriveFault}
+use Rattle.pst_driver.specs.declared.driving.DriveFault.TheVariants.{NoMemory}
 use Rattle.pst_gen.specs.Accepted.{IsAccepted}
 use Rattle.pst_judge.specs.Verdict.{IsVerdict}
-use Rattle.pst_judge.specs.declared.verdicts.Verdict.{Verdict}
-use Rattle.pst_judge.specs.declared.verdicts.Verdict.TheVariants.{Explained, Faulted, Unexplained, Broken}
+use Rattle.pst_judge.specs.declared.judgement.Verdict.{Verdict}
+use Rattle.pst_judge.specs.declared.judgement.Verdict.TheVariants.{Explained, Faulted, Unexplained, Broken}
 use Rattle.pst_model.specs.declared.model.Source.{Source}
 use Rattle.pst_shrink.specs.Outcomes.{Answers}
-use Rattle.pst_shrink.specs.declared.attempt.AttemptOutcome.TheVariants.{NotValid, Held, Broke}
+use Rattle.pst_shrink.specs.declared.shrinking.AttemptOutcome.TheVariants.{NotValid, Held, Broke}
 use Rattle.pst_trial.specs.Driving.{Histories, Faults}
-use Rattle.pst_trial.specs.declared.run.JudgedRun.{JudgedRun}
+use Rattle.pst_trial.specs.declared.record.JudgedRun.{JudgedRun}
 
 -- whether a verdict explains its history
 abbrev pub is_explained : Verdict → Bool

@@ -3,15 +3,15 @@ use Rattle.std.proofs.Common.{◌≡◌, ℕ, List, [], ◌∷◌, inl, inr}
 use Rattle.pst_case.specs.OfModel.{OfModel}
 use Rattle.pst_case.specs.declared.case.Case.{Case}
 use Rattle.pst_case.specs.declared.history.History.{History}
-use Rattle.pst_driver.specs.declared.fault.DriveFault.{DriveFault}
+use Rattle.pst_driver.specs.declared.driving.DriveFault.{DriveFault}
 use Rattle.pst_model.specs.declared.model.Source.{Source}
 use Rattle.pst_shrink.specs.Outcomes.{IsKept}
-use Rattle.pst_shrink.specs.declared.attempt.AttemptOutcome.{AttemptOutcome}
-use Rattle.pst_shrink.specs.declared.attempt.AttemptOutcome.TheVariants.{NotValid, Held, Broke}
+use Rattle.pst_shrink.specs.declared.shrinking.AttemptOutcome.{AttemptOutcome}
+use Rattle.pst_shrink.specs.declared.shrinking.AttemptOutcome.TheVariants.{NotValid, Held, Broke}
 use Rattle.pst_trial.specs.Driving.{Histories, Faults, IsSteady}
 use Rattle.pst_trial.specs.JudgedRuns.{IsJudgedRun, AreExplained, IsAnswer, MayFail}
 use Rattle.pst_trial.specs.PlanView.{PlanView}
-use Rattle.pst_trial.specs.declared.run.JudgedRun.{JudgedRun}
+use Rattle.pst_trial.specs.declared.record.JudgedRun.{JudgedRun}
 
 -- by two relations of the histories of one model's cases
 module _ (D E : Histories) (m : Source)

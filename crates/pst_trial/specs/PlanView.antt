@@ -3,8 +3,8 @@ use Rattle.std.specs.Prelude.{refl}
 use Rattle.std.specs.Coded.{Coded, code_by, coded×}
 use Rattle.pst_model.specs.contracts.model.Source as source_coding
 use Rattle.pst_model.specs.declared.model.Source.{Source}
-use Rattle.pst_trial.specs.contracts.settings.Settings as settings_coding
-use Rattle.pst_trial.specs.declared.settings.Settings.{Settings}
+use Rattle.pst_trial.specs.contracts.plan.Settings as settings_coding
+use Rattle.pst_trial.specs.declared.plan.Settings.{Settings}
 
 -- a model, and the settings of its trials
 pub record PlanView : Type 0 where

@@ -2,8 +2,8 @@
 use Rattle.std.specs.Prelude.{ℕ, refl}
 use Rattle.std.specs.Coded.{Coded, code_by, coded×, coded_ℕ}
 use Rattle.pst_trial.specs.PlanView.{PlanView, plan_view_code}
-use Rattle.pst_trial.specs.contracts.outcome.TrialOutcome as outcome_coding
-use Rattle.pst_trial.specs.declared.outcome.TrialOutcome.{TrialOutcome}
+use Rattle.pst_trial.specs.contracts.record.TrialOutcome as outcome_coding
+use Rattle.pst_trial.specs.declared.record.TrialOutcome.{TrialOutcome}
 
 -- the plan and the number of a trial, and what it came to
 pub record RecordView : Type 0 where

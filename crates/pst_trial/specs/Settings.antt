@@ -1,6 +1,6 @@
 -- The ranges of a plan's settings.
 use Rattle.std.specs.Prelude.{◌≤◌}
-use Rattle.pst_trial.specs.declared.settings.Settings.{Settings}
+use Rattle.pst_trial.specs.declared.plan.Settings.{Settings}
 
 -- each setting is in its range
 pub record AreInRange (s : Settings) : Type 0 where

@@ -1,18 +1,18 @@
 -- What a trial came to, by its plan and its number.
 use Rattle.std.specs.Prelude.{◌≡◌, ⊤, ℕ, List, Result, Ok, Err}
 use Rattle.pst_case.specs.declared.case.Case.{Case}
-use Rattle.pst_eval.specs.declared.place.FaultPlace.{FaultPlace}
+use Rattle.pst_eval.specs.declared.callbacks.FaultPlace.{FaultPlace}
 use Rattle.pst_gen.specs.Draws.{Draws}
 use Rattle.pst_gen.specs.Generated.{IsGenerated}
 use Rattle.pst_shrink.specs.Shrinking.{IsShrunk}
-use Rattle.pst_shrink.specs.declared.attempt.AttemptOutcome.TheVariants.{Held, Broke}
-use Rattle.pst_shrink.specs.declared.shrunk.Shrunk.{Shrunk}
+use Rattle.pst_shrink.specs.declared.shrinking.AttemptOutcome.TheVariants.{Held, Broke}
+use Rattle.pst_shrink.specs.declared.shrinking.Shrunk.{Shrunk}
 use Rattle.pst_trial.specs.Driving.{Histories}
 use Rattle.pst_trial.specs.JudgedRuns.{IsAnswer}
 use Rattle.pst_trial.specs.PlanView.{PlanView}
-use Rattle.pst_trial.specs.declared.outcome.TrialOutcome.{TrialOutcome}
-use Rattle.pst_trial.specs.declared.outcome.TrialOutcome.TheVariants.{GenFaulted, Passed, Failed}
-use Rattle.pst_trial.specs.declared.run.JudgedRun.{JudgedRun}
+use Rattle.pst_trial.specs.declared.record.TrialOutcome.{TrialOutcome}
+use Rattle.pst_trial.specs.declared.record.TrialOutcome.TheVariants.{GenFaulted, Passed, Failed}
+use Rattle.pst_trial.specs.declared.record.JudgedRun.{JudgedRun}
 use Rattle.rand_core.specs.Steps.{stream_of, steps_u64_low}
 use Rattle.rand_core.specs.Stream.{Stream}
 use Rattle.rand_pcg.specs.Lcg.{started, increment_of}

@@ -5,7 +5,7 @@ ghost use Rattle.pst_trial.specs.JudgedRuns.{IsJudgedRun, IsAnswer, MayFail};
 
 use crate::driver::Driver;
 use crate::plan::Plan;
-use crate::run::JudgedRun;
+use crate::record::JudgedRun;
 use pst_case::Case;
 use pst_driver::DriveFault;
 use pst_gen::valid_case_if_accepted;

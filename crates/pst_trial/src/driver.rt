@@ -15,7 +15,7 @@ use std::alloc::Global;
 pub trait Driver {
     ghost use Rattle.pst_case.specs.OfModel.{OfModel};
     ghost use Rattle.pst_case.specs.declared.history.History.{History};
-    ghost use Rattle.pst_driver.specs.declared.fault.DriveFault.{DriveFault};
+    ghost use Rattle.pst_driver.specs.declared.driving.DriveFault.{DriveFault};
     ghost use Rattle.pst_trial.specs.Driving.{IsSteady};
 
     /// The histories that it may record of a case.

@@ -7,32 +7,22 @@
 #![tactic(auto)]
 
 mod attempts;
-mod cases;
-mod crews;
 mod driver;
-mod outcome;
 mod plan;
 mod record;
-mod run;
-mod settings;
 mod sharing;
 mod shrinking;
 mod threads;
 mod trials;
 
-pub use cases::generate_trial_case;
-pub use crews::{CrewDriver, run_trial_with_crew};
 pub use driver::Driver;
-pub use outcome::TrialOutcome;
-pub use plan::Plan;
+pub use plan::{
+    MAX_BRANCHES, MAX_COMMANDS, MAX_LIMIT, MAX_REPEATS, MAX_SUFFIX, MAX_TRIALS, Plan, Settings,
+};
 pub use pst_driver::DriveFault as TrialFault;
 pub use pst_shrink::FailingCase;
-pub use record::Record;
-pub use run::JudgedRun;
-pub use settings::{
-    MAX_BRANCHES, MAX_COMMANDS, MAX_LIMIT, MAX_REPEATS, MAX_SUFFIX, MAX_TRIALS, Settings,
-};
+pub use record::{JudgedRun, Record, TrialOutcome};
 pub use sharing::prove_records_are_send_and_sync;
 pub use shrinking::ShrinkProgress;
-pub use threads::{ThreadDriver, run_trial_with_progress, trial};
-pub use trials::run_trial_with_driver;
+pub use threads::{CrewDriver, ThreadDriver, run_trial_with_crew, run_trial_with_progress, trial};
+pub use trials::{generate_trial_case, run_trial_with_driver};

@@ -1,10 +1,15 @@
-//! Records of trials.
+//! Records of trials: the outcome of each, and its histories with their verdicts.
 ghost use Rattle.std.specs.Prelude.{◌≡◌};
 ghost use Rattle.std.specs.Arc.{arc_value};
+ghost use Rattle.pst_trial.specs.JudgedRuns.{is_explained};
 
-use crate::outcome::TrialOutcome;
 use crate::plan::Plan;
+use pst_case::{Case, History};
+use pst_eval::FaultPlace;
+use pst_judge::Verdict;
 use pst_ledger::Numbered;
+use pst_shrink::Shrunk;
+use pst_value::Items;
 use std::marker::Model;
 use std::sync::Arc;
 
@@ -74,5 +79,45 @@ impl Numbered for Record {
 
     fn number(&self) -> u64 {
         self.number
+    }
+}
+
+/// The outcome of a trial.
+#[derive(Debug, Drop)]
+pub enum TrialOutcome {
+    /// No case was generated, since a callback faults at this place.
+    GenFaulted(FaultPlace),
+    /// The case was driven `repeats` times, a setting of the plan, and each history is explained.
+    Passed {
+        /// The case of the trial.
+        case: Case,
+        /// Its runs, in order.
+        runs: Items<JudgedRun>,
+    },
+    /// A history of the case is not explained, and the case was shrunk.
+    Failed {
+        /// The runs before that one, in order. Each is explained.
+        earlier: Items<JudgedRun>,
+        /// How the case was shrunk. The first case is the one of the trial, with the run that is not
+        /// explained.
+        shrunk: Shrunk<JudgedRun>,
+    },
+}
+
+/// A history of a case, with its verdict.
+#[derive(Debug, Drop)]
+pub struct JudgedRun {
+    /// What was recorded when the case was driven.
+    pub history: History,
+    /// The verdict on the history.
+    pub verdict: Verdict,
+}
+
+impl JudgedRun {
+    /// Whether the verdict is `Explained`.
+    pub fn is_explained(&self) -> bool
+        ensures { result ≡ is_explained self.now.verdict }
+    {
+        matches!(self.verdict, Verdict::Explained(_))
     }
 }

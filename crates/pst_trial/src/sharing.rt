@@ -3,17 +3,17 @@
 ghost use Rattle.std.specs.Thread.{IsSend, IsSync};
 ghost use Rattle.std.specs.contracts.option.Option.{the_row as option_row};
 ghost use Rattle.pst_case.specs.contracts.case.Case.{the_row as case_row};
-ghost use Rattle.pst_eval.specs.contracts.place.FaultPlace.{the_row as place_row};
+ghost use Rattle.pst_eval.specs.contracts.callbacks.FaultPlace.{the_row as place_row};
 ghost use Rattle.pst_value.specs.contracts.items.Items.{the_row as items_row};
-ghost use Rattle.pst_shrink.specs.contracts.shrunk.Shrunk.{the_row as shrunk_row};
-ghost use Rattle.pst_shrink.specs.contracts.shrunk.FailingCase.{the_row as taken_row};
-ghost use Rattle.pst_trial.specs.contracts.run.JudgedRun.{the_row as run_row};
-ghost use Rattle.pst_trial.specs.contracts.outcome.TrialOutcome.{the_row as outcome_row};
+ghost use Rattle.pst_shrink.specs.contracts.shrinking.Shrunk.{the_row as shrunk_row};
+ghost use Rattle.pst_shrink.specs.contracts.shrinking.FailingCase.{the_row as taken_row};
+ghost use Rattle.pst_trial.specs.contracts.record.JudgedRun.{the_row as run_row};
+ghost use Rattle.pst_trial.specs.contracts.record.TrialOutcome.{the_row as outcome_row};
 ghost use Rattle.pst_trial.specs.contracts.plan.Plan.{the_row as plan_row};
 ghost use Rattle.pst_trial.specs.contracts.record.Record.{the_row as record_row};
 
 use crate::plan::Plan;
-use crate::run::JudgedRun;
+use crate::record::JudgedRun;
 use pst_case::Case;
 use pst_compile::Compiled;
 use pst_eval::FaultPlace;

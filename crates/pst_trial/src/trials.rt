@@ -1,25 +1,26 @@
-//! Trials by any driver.
+//! Trials by any driver, and the cases of trials.
 ghost use Rattle.std.specs.Prelude.{◌≡◌, ◌+◌, ◌^◌, ◌<◌, IfOk, IfErr};
 ghost use Rattle.std.specs.Arc.{arc_value};
 ghost use Rattle.pst_shrink.specs.Weight.{weight};
-ghost use Rattle.pst_shrink.specs.declared.attempt.AttemptOutcome.TheVariants.{Broke};
+ghost use Rattle.pst_shrink.specs.declared.shrinking.AttemptOutcome.TheVariants.{Broke};
 ghost use Rattle.pst_trial.specs.JudgedRuns.{IsAnswer, MayFail};
-ghost use Rattle.pst_trial.specs.Sound.{IsSoundBy, IsTried};
+ghost use Rattle.pst_trial.specs.Sound.{IsSoundBy, IsTried, IsTrialCase};
+ghost use Rattle.pst_gen.specs.Generated.{case_in};
 
 use crate::TrialFault;
 use crate::attempts::{ShrinkAttempts, drive_and_judge_case_while_explained};
-use crate::cases::generate_trial_case;
 use crate::driver::Driver;
-use crate::outcome::TrialOutcome;
 use crate::plan::Plan;
-use crate::record::Record;
-use crate::run::JudgedRun;
+use crate::record::{JudgedRun, Record, TrialOutcome};
 use pst_case::Case;
 use pst_driver::DriveFault;
+use pst_eval::FaultPlace;
+use pst_gen::generate;
 use pst_judge::Valid;
 use pst_shrink::{AttemptOutcome, ShrinkFault, shrink};
 use pst_value::Items;
-use std::alloc::Global;
+use rand_pcg::Pcg64;
+use std::alloc::{AllocError, Global};
 use std::sync::Arc;
 
 /// Shrinks a case that has a run that is not explained.
@@ -120,4 +121,26 @@ pub fn run_trial_with_driver<D: Driver>(
         Ok(outcome) => Ok(Record::new(shared, number, outcome)),
         Err(fault) => Err(fault),
     }
+}
+
+/// Returns the valid case of trial `number`, or the fault of a callback if the trial has no case.
+pub fn generate_trial_case(
+    alloc: Global,
+    plan: &Plan,
+    number: u64,
+) -> Result<Result<Valid, FaultPlace>, AllocError>
+    ensures model { IfOk result (λ answer. IfOk answer (λ valid. valid.model ≡ plan.now.model)) }
+    ensures case { IfOk result (λ answer. IsTrialCase plan.now number (case_in answer)) }
+{
+    let settings = plan.settings();
+    let mut words = Pcg64::new(settings.seed as u128, number as u128);
+    generate(
+        plan.compiled(),
+        alloc,
+        plan.typed(),
+        &mut words,
+        settings.commands,
+        settings.branches,
+        settings.suffix,
+    )
 }

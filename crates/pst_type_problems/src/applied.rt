@@ -1,9 +1,9 @@
 //! Applications of functions and calls of operations.
 
 use crate::diagnose::BlamedPart;
+use crate::expression_parts::tree_part_or_whole;
 use crate::operands::{has_references_in_place_of_values, operand_type_mismatch, with_only_note};
 use crate::spelling::shortened_type_text_of_kind;
-use crate::trees::tree_part_or_whole;
 use pst_model::{Expr, Fun, Item, Param};
 use pst_sexpr::word_of;
 use pst_syntax_problems::{

@@ -6,11 +6,10 @@
 
 mod applied;
 mod diagnose;
+mod expression_parts;
 mod lists;
 mod operands;
 mod spelling;
-mod trees;
 mod typing;
-mod walk;
 
 pub use typing::type_problems_from_item_on;

@@ -1,12 +1,12 @@
 //! What is wrong with places in lists, with lists, comprehensions and folds.
 
 use crate::diagnose::BlamedPart;
+use crate::expression_parts::{comprehension_clauses_or_empty, is_clause_over_list};
 use crate::operands::{
     operand_type_mismatch, problem_of_non_list_part, with_hint_if_reference,
     with_hint_if_references_for_values, with_item_access_hint_if_container,
 };
 use crate::spelling::shortened_type_text_of_kind;
-use crate::trees::{comprehension_clauses_or_empty, is_clause_over_list};
 use pst_model::Expr;
 use pst_sexpr::Form;
 use pst_syntax_problems::{FoundProblem, TypeText, problem_at_part, problem_with_note};

@@ -1,9 +1,11 @@
 //! Models that are not well typed.
 
 use crate::diagnose::{BlamedPart, diagnose_blamed_part};
+use crate::expression_parts::{
+    enter_expression_part, expression_part_at_path_adding_names, find_callback_number_and_body,
+    scope_names, tree_part_or_whole,
+};
 use crate::operands::problem_of_type_mismatch;
-use crate::trees::{enter_expression_part, find_callback_number_and_body, tree_part_or_whole};
-use crate::walk::{expression_part_at_path_adding_names, scope_names};
 use pst_model::{Expr, Fun, Item, Op, Source, find_state_type};
 use pst_sexpr::Form;
 use pst_syntax_problems::{

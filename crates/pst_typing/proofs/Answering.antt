@@ -7,7 +7,7 @@ use Rattle.pst_typing.proofs.Exact.{same_node, node_exact}
 use Rattle.pst_typing.proofs.Growing.{shown, there, pushed, pushed_closed}
 use Rattle.pst_typing.specs.Adding.{IsAdded}
 use Rattle.pst_typing.specs.Nodes.{type_at, node_type, types_after, IsBelow, AreClosed}
-use Rattle.pst_typing.specs.declared.kinds.node.Node.{Node}
+use Rattle.pst_typing.specs.declared.kinds.nodes.Node.{Node}
 use Rattle.pst_value.specs.declared.ty.Ty.{Ty}
 
 module _ (nodes : List Node) (closed : AreClosed 0 nodes) (types : List Ty) (view : types_after [] nodes ≡ types) where

@@ -13,7 +13,7 @@ use Rattle.pst_typing.specs.Gathering.{AreBlamed, IsReason, IsFound, nothing, Le
 use Rattle.pst_typing.specs.declared.blame.Blame.{Blame}
 use Rattle.pst_typing.specs.declared.blame.Found.{Found}
 use Rattle.pst_typing.specs.declared.blame.Found.TheVariants as found
-use Rattle.pst_typing.specs.declared.gathered.Gathered.{Gathered}
+use Rattle.pst_typing.specs.declared.blame.Gathered.{Gathered}
 use Rattle.pst_typing.proofs.ByForms.{all_some, by_parts_found}
 use Rattle.pst_typing.proofs.Gathers.{none_yet}
 use Rattle.pst_value.specs.declared.ty.Ty.{Ty}

@@ -5,11 +5,11 @@ use Rattle.std.specs.Prelude.{nat_eq}
 use Rattle.std.specs.Cmp.Lexicographic.{pointwise, bytes_decides}
 use Rattle.std.proofs.lemmas.Bool.Decides.{Decides-eqb}
 use Rattle.pst_value.proofs.ItemsExact.{IsExactAt, IsExactChoice, by_exact, both_first, both_second, lists_exact}
-use Rattle.pst_typing.specs.declared.kinds.node.Node.{Node}
-use Rattle.pst_typing.specs.declared.kinds.node.Node.TheVariants as node
-use Rattle.pst_typing.specs.contracts.kinds.node.Node as enum
-use Rattle.pst_typing.specs.contracts.kinds.node.NodePartialEq.TheImpl as impl
-use Rattle.pst_typing.specs.contracts.kinds.node.NodeEq.TheImpl.Laws as laws
+use Rattle.pst_typing.specs.declared.kinds.nodes.Node.{Node}
+use Rattle.pst_typing.specs.declared.kinds.nodes.Node.TheVariants as node
+use Rattle.pst_typing.specs.contracts.kinds.nodes.Node as enum
+use Rattle.pst_typing.specs.contracts.kinds.nodes.NodePartialEq.TheImpl as impl
+use Rattle.pst_typing.specs.contracts.kinds.nodes.NodeEq.TheImpl.Laws as laws
 use Rattle.pst_value.proofs.ExactKeys.{same_kind-Decides}
 use Rattle.pst_value.specs.Equality.{same_kind}
 use denote.Enum.Compared.{Each, by}

@@ -13,7 +13,7 @@ use Rattle.pst_typing.specs.Gathering.{kind_found, item_in, AreBlamed, IsFound, 
 use Rattle.pst_typing.specs.declared.blame.Blame.{Blame}
 use Rattle.pst_typing.specs.declared.blame.Found.{Found}
 use Rattle.pst_typing.specs.declared.blame.Found.TheVariants as found
-use Rattle.pst_typing.specs.declared.gathered.Gathered.{Gathered}
+use Rattle.pst_typing.specs.declared.blame.Gathered.{Gathered}
 use Rattle.pst_value.specs.declared.ty.Ty.{Ty}
 
 -- ---- lists

@@ -6,8 +6,8 @@ use Rattle.std.proofs.lemmas.Option.{slice_get_within}
 use Rattle.std.proofs.Math.Seq.{get_or-append_seam}
 use Rattle.pst_typing.specs.Adding.{Extends, IsAdded}
 use Rattle.pst_typing.specs.Nodes.{type_at, node_type, types_after, AreBelow, IsBelow, AreClosed}
-use Rattle.pst_typing.specs.declared.kinds.node.Node.{Node}
-use Rattle.pst_typing.specs.declared.kinds.node.Node.TheVariants as node
+use Rattle.pst_typing.specs.declared.kinds.nodes.Node.{Node}
+use Rattle.pst_typing.specs.declared.kinds.nodes.Node.TheVariants as node
 use Rattle.pst_value.specs.declared.ty.Ty.{Ty}
 use Rattle.pst_value.specs.declared.ty.Ty.TheVariants as ty
 

@@ -6,8 +6,8 @@ use Rattle.pst_model.specs.Kinds.{holds_ref_or_call}
 use Rattle.pst_typing.proofs.Holding.{holds_ref_or_call-Int, holds_ref_or_call-Truth, holds_ref_or_call-Text, holds_ref_or_call-Tuple, holds_ref_or_call-ListOf, holds_ref_or_call-MapOf, holds_ref_or_call-Ref, holds_ref_or_call-Call}
 use Rattle.pst_typing.specs.Forms.{held_at, node_holds}
 use Rattle.pst_typing.specs.Nodes.{type_at, node_type, AreBelow, IsBelow}
-use Rattle.pst_typing.specs.declared.kinds.node.Node.{Node}
-use Rattle.pst_typing.specs.declared.kinds.node.Node.TheVariants as node
+use Rattle.pst_typing.specs.declared.kinds.nodes.Node.{Node}
+use Rattle.pst_typing.specs.declared.kinds.nodes.Node.TheVariants as node
 use Rattle.pst_value.specs.declared.ty.Ty.{Ty}
 use Rattle.pst_value.specs.declared.ty.Ty.TheVariants as ty
 

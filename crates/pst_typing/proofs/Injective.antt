@@ -7,8 +7,8 @@ use Rattle.std.proofs.lemmas.Option.{slice_get-get_or}
 use Rattle.pst_typing.proofs.Exact.{same_node, same_node_refl}
 use Rattle.pst_typing.proofs.Growing.{shown, types_length}
 use Rattle.pst_typing.specs.Nodes.{type_at, node_type, types_after, AreBelow, IsBelow, AreClosed}
-use Rattle.pst_typing.specs.declared.kinds.node.Node.{Node}
-use Rattle.pst_typing.specs.declared.kinds.node.Node.TheVariants as node
+use Rattle.pst_typing.specs.declared.kinds.nodes.Node.{Node}
+use Rattle.pst_typing.specs.declared.kinds.nodes.Node.TheVariants as node
 use Rattle.pst_value.proofs.ExactTypes.{same_ty-Decides}
 use Rattle.pst_value.specs.Equality.{same_ty}
 use Rattle.pst_value.specs.declared.ty.Ty.{Ty, out-Ty}

@@ -8,8 +8,8 @@ use Rattle.std.specs.List.{slice_index}
 use Rattle.pst_typing.proofs.Growing.{at_extended}
 use Rattle.pst_typing.specs.Adding.{Extends, IsAdded, renumbered}
 use Rattle.pst_typing.specs.Nodes.{type_at, node_type, AreBelow, IsBelow}
-use Rattle.pst_typing.specs.declared.kinds.node.Node.{Node}
-use Rattle.pst_typing.specs.declared.kinds.node.Node.TheVariants as node
+use Rattle.pst_typing.specs.declared.kinds.nodes.Node.{Node}
+use Rattle.pst_typing.specs.declared.kinds.nodes.Node.TheVariants as node
 use Rattle.pst_value.specs.declared.ty.Ty.{Ty}
 use Rattle.pst_value.specs.declared.ty.Ty.TheVariants as ty
 

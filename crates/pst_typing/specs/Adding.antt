@@ -1,8 +1,8 @@
 -- What adding a type to a list of types does.
 use Rattle.std.specs.Prelude.{◌≡◌, ℕ, ◌<◌, List, ◌++◌, length, map, slice_index}
 use Rattle.pst_typing.specs.Nodes.{type_at, AreBelow}
-use Rattle.pst_typing.specs.declared.kinds.node.Node.{Node}
-use Rattle.pst_typing.specs.declared.kinds.node.Node.TheVariants as node
+use Rattle.pst_typing.specs.declared.kinds.nodes.Node.{Node}
+use Rattle.pst_typing.specs.declared.kinds.nodes.Node.TheVariants as node
 use Rattle.pst_value.specs.declared.ty.Ty.{Ty}
 
 -- the types that there were stay, and others follow

@@ -1,7 +1,7 @@
 -- What a search for a type, or a test of one, answers unless memory is refused.
 use Rattle.std.specs.Prelude.{◌≡◌, Bool, true, false, Option, Some, None, Result, Ok, Err, ⊤}
-use Rattle.pst_typing.specs.declared.refusal.Refusal.{Refusal}
-use Rattle.pst_typing.specs.declared.refusal.Refusal.TheVariants.{Ill, NoMemory}
+use Rattle.pst_typing.specs.declared.blame.Refusal.{Refusal}
+use Rattle.pst_typing.specs.declared.blame.Refusal.TheVariants.{Ill, NoMemory}
 
 abbrev pub FindsNone : {A : Type 0} → Option A → Refusal → Type 0
 FindsNone o Ill = o ≡ None

@@ -8,7 +8,7 @@ use Rattle.pst_model.specs.declared.expr.Expr.{Expr, Expr-F, out-Expr}
 use Rattle.pst_model.specs.declared.expr.Unary.{Unary}
 use Rattle.pst_model.specs.declared.model.Item.{Item}
 use Rattle.pst_typing.specs.Decision.{◌>>=◌, where_true, part_type, keys_type, values_type, unary_type, binary_type, operation_called}
-use Rattle.pst_typing.specs.declared.context.Context.{Context as Surroundings}
+use Rattle.pst_typing.specs.declared.scope.Context.{Context as Surroundings}
 use Rattle.pst_value.specs.Equality.{same_ty}
 use Rattle.pst_value.specs.Text.{is_i64, is_text, limit}
 use Rattle.pst_value.specs.declared.ty.Ty.{Ty}

@@ -3,8 +3,8 @@ use Rattle.std.specs.Prelude.{◌≡◌, Result, Ok, Err, ⊤}
 use Rattle.pst_model.specs.WellTyped.{WellModel}
 use Rattle.pst_model.specs.declared.model.Source.{Source}
 use Rattle.pst_typing.specs.Least.{IsIll}
-use Rattle.pst_typing.specs.declared.type_fault.TypeFault.{TypeFault}
-use Rattle.pst_typing.specs.declared.type_fault.TypeFault.TheVariants.{Item, NoMemory}
+use Rattle.pst_typing.specs.declared.loading.TypeFault.{TypeFault}
+use Rattle.pst_typing.specs.declared.loading.TypeFault.TheVariants.{Item, NoMemory}
 
 -- the fault names the least item that is not well typed, unless memory was refused
 abbrev pub Refuses : Source → TypeFault → Type 0

@@ -1,7 +1,7 @@
 -- The names of the kinds of faults.
 use Rattle.std.specs.Prelude.{ℕ, List, ◌++◌, codes, decimal}
-use Rattle.pst_typing.specs.declared.type_fault.TypeFault.{TypeFault}
-use Rattle.pst_typing.specs.declared.type_fault.TypeFault.TheVariants.{Item, NoMemory}
+use Rattle.pst_typing.specs.declared.loading.TypeFault.{TypeFault}
+use Rattle.pst_typing.specs.declared.loading.TypeFault.TheVariants.{Item, NoMemory}
 
 -- the name of a fault's kind
 abbrev pub fault_name : TypeFault → List ℕ

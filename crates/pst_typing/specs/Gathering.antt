@@ -8,7 +8,7 @@ use Rattle.pst_typing.specs.Decision.{◌>>=◌, item_type}
 use Rattle.pst_typing.specs.declared.blame.Blame.{Blame}
 use Rattle.pst_typing.specs.declared.blame.Found.{Found}
 use Rattle.pst_typing.specs.declared.blame.Found.TheVariants as found
-use Rattle.pst_typing.specs.declared.gathered.Gathered.{Gathered}
+use Rattle.pst_typing.specs.declared.blame.Gathered.{Gathered}
 use Rattle.pst_value.specs.declared.ty.Ty.{Ty}
 
 -- the type that is found, if there is one

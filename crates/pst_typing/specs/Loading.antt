@@ -8,8 +8,8 @@ use Rattle.pst_sexpr.specs.declared.form.Form.{Form}
 use Rattle.pst_syntax.specs.FaultName as syntax
 use Rattle.pst_syntax.specs.Items.{model_of}
 use Rattle.pst_typing.specs.Least.{IsIll}
-use Rattle.pst_typing.specs.declared.load_refusal.Refusal.{Refusal}
-use Rattle.pst_typing.specs.declared.load_refusal.Refusal.TheVariants.{Unread, NoModel, IllTyped}
+use Rattle.pst_typing.specs.declared.loading.Refusal.{Refusal}
+use Rattle.pst_typing.specs.declared.loading.Refusal.TheVariants.{Unread, NoModel, IllTyped}
 
 -- the input is a file of the trees
 pub record IsFile (input : List ℕ) (trees : List Form) : Type 0 where

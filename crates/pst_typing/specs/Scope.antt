@@ -5,7 +5,7 @@ use Rattle.pst_model.specs.Parts.{Name}
 use Rattle.pst_model.specs.declared.expr.Expr.{Expr}
 use Rattle.pst_model.specs.Rules.{Context, context_of}
 use Rattle.pst_typing.specs.Decision.{Finds, Part, type_of, part_of}
-use Rattle.pst_typing.specs.declared.context.Context.{Context as Surroundings}
+use Rattle.pst_typing.specs.declared.scope.Context.{Context as Surroundings}
 use Rattle.pst_typing.specs.declared.scope.Names.{Names, Outer, With' as Within}
 use Rattle.pst_typing.specs.declared.scope.Scope.{Scope, Parameters, With'}
 use Rattle.pst_typing.specs.declared.scope.TypedName.{TypedName}

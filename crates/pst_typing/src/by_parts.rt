@@ -1,5 +1,4 @@
 //! The kind of an expression by the kinds of its parts.
-
 ghost use Rattle.std.specs.Prelude.{◌≡◌, Some, reverse, IfOk};
 ghost use Rattle.pst_model.specs.Parts.{types_of};
 ghost use Rattle.pst_typing.specs.Answers.{Answers};
@@ -8,15 +7,13 @@ ghost use Rattle.pst_typing.specs.Gathering.{IsJudged};
 ghost use Rattle.pst_typing.specs.Scope.{names_in};
 ghost use Rattle.pst_value.specs.declared.ty.Ty.TheVariants.{Map as map_type, Tuple as tuple};
 
-use crate::blame::{Blame, Found};
-use crate::context::Context;
+use crate::blame::{Blame, Found, Refusal};
 use crate::kinds::Kind;
 use crate::operators::{
     binary_type, copy_kind_if_true, copy_kind_or_refuse, int_type, kind_of, kind_of_map_keys,
     kind_of_type_if_true, part_type, text_type_if_lawful, unary_type, values_type,
 };
-use crate::refusal::Refusal;
-use crate::scope::{Names, kind_of_variable, last_function_of_name, operation_called};
+use crate::scope::{Context, Names, kind_of_variable, last_function_of_name, operation_called};
 use pst_model::{Binary, Clause, Expr, Param, Unary};
 use pst_value::{Items, KeyTy, LIMIT, Ty};
 use std::alloc::{AllocError, Global};

@@ -1,16 +1,13 @@
 //! The kind of an expression, or the parts of it that are to blame.
-
 ghost use Rattle.std.specs.Prelude.{◌≡◌, [], ◌∷◌, IfOk, MatchOption};
 ghost use Rattle.pst_typing.specs.Blamed as spec;
 ghost use Rattle.pst_typing.specs.Gathering.{IsGathered, ArePartsOf, AreClausesOf, IsFound};
 ghost use Rattle.pst_typing.specs.Scope.{names_of, names_in, type_in};
 ghost use Rattle.pst_model.specs.declared.expr.Clause.TheVariants as clause;
 
-use crate::blame::Found;
+use crate::blame::{Found, Gathered, item_kind_if_list};
 use crate::by_parts::kind_or_blame_by_parts;
-use crate::context::Context;
-use crate::gathered::{Gathered, item_kind_if_list};
-use crate::scope::{Names, Scope, typed_names_of_scope};
+use crate::scope::{Context, Names, Scope, typed_names_of_scope};
 use pst_model::{Clause, Expr};
 use pst_value::{Boxed, Text};
 use std::alloc::AllocError;

@@ -5,7 +5,6 @@
 
 mod form;
 mod kind;
-mod node;
 mod nodes;
 
 pub use form::KindForm;

@@ -1,17 +1,85 @@
-//! Loads a model: reads bytes as a well-typed model and the trees after it, or returns the first refusal.
+//! Loads and checks models: `load` reads bytes as a well-typed model, `check` checks one; and why they refuse.
 ghost use Rattle.std.specs.Prelude.{◌≡◌, IfOk, MatchResult};
+ghost use Rattle.pst_typing.specs.FaultName.{fault_name};
 ghost use Rattle.pst_model.specs.WellTyped.{WellModel};
 ghost use Rattle.pst_syntax.specs.Items.{model_of};
-ghost use Rattle.pst_typing.specs.Least.{IsIll};
+ghost use Rattle.pst_typing.specs.Least.{IsIll, IsWhole, Judged};
 ghost use Rattle.pst_typing.specs.Loading.{IsFile, Holds, IsRefusal, items_of};
+ghost use Rattle.pst_typing.specs.Checked.{Checks};
 
-use crate::checking::check;
-use crate::load_refusal::Refusal;
-use crate::type_fault::TypeFault;
-use pst_model::Typed;
-use pst_sexpr::{FaultKind, Tree, read};
+use crate::items::first_ill_typed_item_number;
+use pst_model::{Source, Typed, find_state_type};
+use pst_sexpr::{FaultKind, SexprFault, Tree, read};
+use pst_syntax::laws::{
+    model_item_counts_are_lawful, model_operations_are_lawful, plain_model_types_have_no_maps,
+};
 use pst_syntax::{Model, SyntaxFault, read_model};
 use std::alloc::{AllocError, Global};
+use std::error::Error;
+use std::fmt;
+
+/// Why an input does not begin with a well-typed model.
+#[derive(Clone, Copy, Debug, PartialEq, Eq, Drop)]
+pub enum Refusal {
+    /// The bytes are no file of trees.
+    Unread(SexprFault),
+    /// The first tree is no model.
+    NoModel(SyntaxFault),
+    /// The number, from 1, of the first item of the model that is not well typed.
+    IllTyped(usize),
+}
+
+impl fmt::Display for Refusal {
+    ghost use Rattle.std.specs.Prelude.{Some};
+    ghost use Rattle.pst_typing.specs.Loading.{text_of};
+
+    ghost output = { λ refusal. Some (text_of refusal) };
+
+    fn fmt<W: fmt::Write>(&self, f: &mut fmt::Formatter<W>) -> fmt::Result {
+        match self {
+            Refusal::Unread(fault) => write!(f, "read {fault}"),
+            Refusal::NoModel(fault) => write!(f, "model {fault}"),
+            Refusal::IllTyped(number) => write!(f, "type item {number}"),
+        }
+    }
+}
+
+/// Why the check of a model does not call it well typed.
+#[derive(Clone, Copy, Debug, PartialEq, Eq, Drop)]
+pub enum TypeFault {
+    /// The number, from 1, of the first item that is not well typed.
+    Item(usize),
+    /// An allocation failed.
+    NoMemory,
+}
+
+impl TypeFault {
+    /// The name of its kind, such as `Item`.
+    pub fn name(&self) -> &'static str
+        ensures { result.now ≡ fault_name self.now }
+    {
+        match self {
+            TypeFault::Item(_) => "Item",
+            TypeFault::NoMemory => "NoMemory",
+        }
+    }
+}
+
+impl fmt::Display for TypeFault {
+    ghost use Rattle.std.specs.Prelude.{Some};
+    ghost use Rattle.pst_typing.specs.FaultName.{text_of};
+
+    ghost output = { λ fault. Some (text_of fault) };
+
+    fn fmt<W: fmt::Write>(&self, f: &mut fmt::Formatter<W>) -> fmt::Result {
+        match self {
+            TypeFault::Item(number) => write!(f, "item {number}"),
+            TypeFault::NoMemory => write!(f, "NoMemory"),
+        }
+    }
+}
+
+impl Error for TypeFault {}
 
 /// A file of trees, the first of which spells a well-typed model.
 #[derive(Drop)]
@@ -98,5 +166,37 @@ pub fn trees_after_model(trees: &[Tree]) -> &[Tree]
     match trees.split_first() {
         Some((_, items)) => items,
         None => &[],
+    }
+}
+
+/// The number of the first item that is not well typed.
+#[tactic(auto, using(crate::proofs::Judging::judged))]
+fn number_of_first_ill_typed_item(
+    alloc: Global,
+    source: &Source,
+) -> Result<Option<usize>, AllocError>
+    requires { IsWhole source.now }
+    ensures { IfOk result (λ number. Judged source.now number) }
+{
+    let items = source.items.as_slice();
+    match find_state_type(items) {
+        Some(state) => first_ill_typed_item_number(alloc, items, state),
+        None => unreachable!(),
+    }
+}
+
+/// Checks a model. Returns it as well typed, or gives it back with a fault.
+///
+/// `Item`: the first item that is not well typed. `NoMemory`: an allocation failed.
+pub fn check(alloc: Global, model: Model) -> Result<Typed, (Model, TypeFault)>
+    ensures { Checks model result }
+{
+    model_item_counts_are_lawful();
+    model_operations_are_lawful();
+    plain_model_types_have_no_maps();
+    match number_of_first_ill_typed_item(alloc, model.source()) {
+        Ok(None) => Ok(Typed::new(model.into_source())),
+        Ok(Some(number)) => Err((model, TypeFault::Item(number))),
+        Err(AllocError) => Err((model, TypeFault::NoMemory)),
     }
 }

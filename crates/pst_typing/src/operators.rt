@@ -11,8 +11,8 @@ ghost use Rattle.pst_value.specs.Fits.{is_ty};
 ghost use Rattle.pst_value.specs.Text as lawful;
 ghost use Rattle.pst_value.specs.declared.ty.Ty.TheVariants.{Int as int, List as list, Text as text};
 
+use crate::blame::Refusal;
 use crate::kinds::{Kind, KindForm};
-use crate::refusal::Refusal;
 use pst_model::{Binary, Unary};
 use pst_value::{KeyTy, LIMIT, Ty};
 use std::alloc::{AllocError, Global};

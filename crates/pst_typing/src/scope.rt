@@ -1,4 +1,4 @@
-//! What names mean: variables, operations and functions.
+//! What an expression may name, and what names mean: variables, operations and functions.
 ghost use Rattle.std.specs.Prelude.{◌≡◌, map, reverse, IfOk};
 ghost use Rattle.std.specs.Option.{option_copied};
 ghost use Rattle.pst_model.specs.Rules as rules;
@@ -6,12 +6,24 @@ ghost use Rattle.pst_typing.specs.Decision as decision;
 ghost use Rattle.pst_typing.specs.Answers.{Answers};
 ghost use Rattle.pst_typing.specs.Scope.{names_of, names_in, name_seen};
 
+use crate::blame::Refusal;
 use crate::kinds::Kind;
 use crate::operators::copy_kind_or_refuse;
-use crate::refusal::Refusal;
 use pst_model::{Fun, Item, Op, Param, operation_number, operation_of};
 use pst_value::Items;
 use std::alloc::{AllocError, Global};
+
+/// What an expression may name besides its variables.
+#[derive(Drop)]
+pub struct Context<'a> {
+    pub alloc: Global,
+    /// The items of the model, whose operations a call may name.
+    pub items: &'a [Item],
+    /// The items before the place of the expression, whose functions it may apply.
+    pub earlier: &'a [Item],
+    /// Whether the expression is in mode post, in which a reference has a value.
+    pub is_post: bool,
+}
 
 /// The names that an expression sees with their types, the inner ones first.
 #[derive(Drop)]

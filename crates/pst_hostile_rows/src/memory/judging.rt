@@ -3,9 +3,8 @@ ghost use Rattle.std.specs.Prelude.{◌≡◌, IfOk};
 ghost use Rattle.pst_runs.specs.Lawful.{AreLawful};
 
 use crate::memory::reading::{
-    read_and_check_counter_model, read_counter_trees, text_of_bytes_or_refusal,
+    Refused, read_and_check_counter_model, read_counter_trees, text_of_bytes_or_refusal,
 };
-use crate::memory::refused::Refused;
 use crate::models::COUNTER_AND_ITEMS;
 use pst_case::{Case, CaseFaultKind, Run};
 use pst_cli::{Status, judge_text};

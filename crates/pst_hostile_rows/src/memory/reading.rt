@@ -1,13 +1,33 @@
-//! Results of the calls from bytes to a compiled model.
+//! Why a call has no result, and the results of the calls from bytes to a compiled model.
 
-use crate::memory::refused::Refused;
 use crate::models::COUNTER_AND_ITEMS;
 use pst_compile::{Compiled, compile, listing};
 use pst_model::Typed;
 use pst_sexpr::{FaultKind, Out, Tree, read, write};
 use pst_tests::{Model, ModelFaultKind, print_model, read_model};
 use pst_typing::{TypeFault, check, model_name};
-use std::alloc::Global;
+use std::alloc::{AllocError, AllocFailed, Global};
+
+/// Why a call has no result.
+#[derive(Clone, Copy, Drop)]
+pub enum Refused {
+    /// An allocation failed, or a thread could not start, which needs memory.
+    NoMemory,
+    /// Any other reason, by its name. No call of this program should return it.
+    Otherwise(&'static str),
+}
+
+impl From<AllocError> for Refused {
+    fn from(_refused: AllocError) -> Refused {
+        Refused::NoMemory
+    }
+}
+
+impl<T: Drop> From<AllocFailed<T>> for Refused {
+    fn from(_refused: AllocFailed<T>) -> Refused {
+        Refused::NoMemory
+    }
+}
 
 /// The trees of the counter's text.
 pub fn read_counter_trees(alloc: Global) -> Result<Vec<Tree>, Refused> {

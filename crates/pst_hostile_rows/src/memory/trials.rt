@@ -2,8 +2,7 @@
 ghost use Rattle.std.specs.Prelude.{◌≡◌, length};
 ghost use Rattle.pst_report.specs.InOrder.{AreOf};
 
-use crate::memory::reading::text_of_bytes_or_refusal;
-use crate::memory::refused::Refused;
+use crate::memory::reading::{Refused, text_of_bytes_or_refusal};
 use pst_campaign::{CampaignFault, Unwatched, campaign};
 use pst_ledger::{Closed, Entry};
 use pst_report::report;

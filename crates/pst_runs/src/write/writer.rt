@@ -1,5 +1,6 @@
-//! The writer of runs.
+//! The writer of runs, and the faults of writing.
 ghost use Rattle.std.specs.Prelude.{◌≡◌, false, IfOk, Ok};
+ghost use Rattle.pst_runs.specs.WriteFaultName.{fault_name};
 ghost use Rattle.pst_runs.specs.Items.{runs_of};
 ghost use Rattle.pst_runs.specs.Lawful.{AreLawful};
 ghost use Rattle.pst_runs.specs.Lines.{line_of, lines_of, WritesLines};
@@ -7,12 +8,70 @@ ghost use Rattle.pst_runs.specs.Written.{run_forms};
 ghost use Rattle.pst_sexpr.specs.Reading.{Spells};
 ghost use Rattle.pst_sexpr.specs.Writing.{Writes};
 
-use crate::write::fault::WriteFault;
 use crate::write::items::{prove_run_is_read_back, run_tree};
 use pst_case::Run;
 use pst_model::Typed;
 use pst_sexpr::{Sink, Tree, WriteFailed, put_all, write};
 use std::alloc::{AllocError, Global};
+use std::error::Error;
+use std::fmt;
+
+/// Why runs were not written to the end.
+#[derive(Clone, Copy, Debug, PartialEq, Eq, Drop)]
+pub enum WriteFault {
+    /// The writer has failed. A beginning of the text went out.
+    WriteFailed,
+    /// An allocation failed. Nothing went out, and the writer has not failed.
+    NoMemory,
+}
+
+impl WriteFault {
+    /// The word that is printed for it.
+    pub fn name(&self) -> &'static str
+        ensures { result.now ≡ fault_name self.now }
+    {
+        match self {
+            WriteFault::WriteFailed => "WriteFailed",
+            WriteFault::NoMemory => "NoMemory",
+        }
+    }
+}
+
+impl fmt::Display for WriteFault {
+    ghost use Rattle.std.specs.Prelude.{Some};
+    ghost use Rattle.pst_runs.specs.WriteFaultName.{fault_name};
+
+    ghost output = { λ fault. Some (fault_name fault) };
+
+    fn fmt<W: fmt::Write>(&self, f: &mut fmt::Formatter<W>) -> fmt::Result {
+        let name = self.name();
+        write!(f, "{name}")
+    }
+}
+
+impl Error for WriteFault {}
+
+impl From<AllocError> for WriteFault {
+    ghost use Rattle.std.specs.Prelude.{◌≡◌};
+    ghost use Rattle.pst_runs.specs.declared.write.writer.WriteFault.TheVariants.{NoMemory};
+
+    ghost from_gives = { λ _ e. e ≡ NoMemory };
+
+    fn from(_: AllocError) -> WriteFault {
+        WriteFault::NoMemory
+    }
+}
+
+impl From<WriteFailed> for WriteFault {
+    ghost use Rattle.std.specs.Prelude.{◌≡◌};
+    ghost use Rattle.pst_runs.specs.declared.write.writer.WriteFault.TheVariants as fault;
+
+    ghost from_gives = { λ _ e. e ≡ fault.WriteFailed };
+
+    fn from(_: WriteFailed) -> WriteFault {
+        WriteFault::WriteFailed
+    }
+}
 
 /// Proves that the lines of valid runs spell their trees, and that these are read as the runs. It allocates nothing: it
 /// only uses `prove_run_is_read_back` for each run.

@@ -1,14 +1,25 @@
-//! Rows of calls, each with its answer.
+//! Rows of calls on books and ledgers, each with its answer, and the record that the tests deposit.
 ghost use Rattle.std.specs.Prelude.{◌≡◌, None};
 
-use crate::ledgers::notes::NumberRecord;
 use pst_ledger::{
-    Book, BookCall, BookReply, Cause, CloseFault, Closed, Entry, Ledger, LedgerFault, Seat,
-    make_calls_and_add_replies,
+    Book, BookCall, BookReply, Cause, CloseFault, Closed, Entry, Ledger, LedgerFault, Numbered,
+    Seat, make_calls_and_add_replies,
 };
 use std::alloc::{AllocError, Global};
 use std::process::Abort;
 use std::test::Fail;
+
+/// A record that is its number.
+#[derive(Debug, PartialEq, Eq, Drop)]
+pub(crate) struct NumberRecord(pub(crate) u64);
+
+impl Numbered for NumberRecord {
+    ghost number_of = { λ note. note.0 };
+
+    fn number(&self) -> u64 {
+        self.0
+    }
+}
 
 #[test]
 fn a_book_records_three_trials(rt: HostRuntime) -> Result<(), Fail> {

@@ -1,11 +1,13 @@
-//! Seats that claim when nothing is left, and that come back in any order.
-ghost use Rattle.std.specs.Prelude.{◌≡◌, None};
+//! Seats of a ledger: seats that come back in any order, and seats that threads use at once.
+ghost use Rattle.std.specs.Prelude.{◌≡◌, None, true};
 
-use crate::ledgers::notes::NumberRecord;
+use crate::ledgers::rows::NumberRecord;
 use pst_ledger::{Cause, Closed, Entry, Ledger, Seat};
 use std::alloc::{AllocError, Global};
 use std::process::Abort;
+use std::sync::Wait;
 use std::test::Fail;
+use std::thread;
 
 /// Closes a ledger with three seats, which come back in this order.
 fn close_ledger_with_seats(
@@ -108,5 +110,58 @@ fn seats_come_back_in_any_order(rt: HostRuntime) -> Result<(), Fail> {
         };
         assert!(rt; closed.entries() == expected.as_slice(), "in order {order}");
     }
+    Ok(())
+}
+
+/// Claims until there is nothing left, and deposits a note for each number.
+fn claim_and_deposit_until_none_left<R: Wait>(
+    rt: &R,
+    ledger: &Ledger<NumberRecord>,
+    mut seat: Seat<NumberRecord>,
+) -> Seat<NumberRecord>
+    requires own { seat.table ≡ ledger.now.table }
+    requires idle { seat.held ≡ None }
+    ensures place { result.table ≡ seat.table }
+    ensures last { (result.marked ≡ true) × (result.held ≡ None) }
+{
+    for _ in rt.forever() {
+        match ledger.claim(&mut seat) {
+            Some(number) => {
+                let _ = ledger.deposit(&mut seat, NumberRecord(number));
+            }
+            None => return seat,
+        }
+    }
+    unreachable!()
+}
+
+/// Whether the entries are the records of the numbers from 0 on, in order.
+fn are_entries_records_in_order(entries: &[Entry<NumberRecord>]) -> bool {
+    for (number, entry) in entries.iter().enumerate() {
+        if !matches!(entry, Entry::Done(note) if note.0 == number as u64) {
+            return false;
+        }
+    }
+    true
+}
+
+#[test]
+fn sixteen_threads_draw_each_number_once(rt: HostRuntime) -> Result<(), Fail> {
+    let (ledger, seats) = Ledger::<NumberRecord>::open(rt.alloc(), 100_000, 16)?;
+    let shared = &ledger;
+    let back = thread::map_vec(
+        &rt,
+        seats,
+        &|seat: Seat<NumberRecord>|
+            requires { (seat.table ≡ shared.now.table) × (seat.held ≡ None) }
+            ensures { result.table ≡ shared.entry.now.table }
+        { claim_and_deposit_until_none_left(&rt, shared, seat) },
+    )?;
+    assert!(rt; back.len() == 16);
+    let Ok(closed) = ledger.close(back) else {
+        panic!(rt; "a seat is missing")
+    };
+    assert!(rt; closed.entries().len() == 100_000);
+    assert!(rt; are_entries_records_in_order(closed.entries()));
     Ok(())
 }

@@ -1,5 +1,4 @@
 //! The form of a kind, and whether it holds references.
-
 ghost use Rattle.std.specs.Prelude.{◌≡◌, ◌<◌, length, map, IfOk};
 ghost use Rattle.std.specs.List.{list_any};
 ghost use Rattle.pst_typing.specs.Forms as spec;
@@ -7,8 +6,7 @@ ghost use Rattle.pst_typing.specs.Nodes.{type_at, AreBelow, IsBelow};
 ghost use Rattle.pst_model.specs.Kinds as kinds;
 
 use crate::kinds::kind::Kind;
-use crate::kinds::node::Node;
-use crate::kinds::nodes::Nodes;
+use crate::kinds::nodes::{Node, Nodes};
 use pst_value::{Items, KeyTy};
 use std::alloc::{AllocError, Global};
 use std::rc::Rc;

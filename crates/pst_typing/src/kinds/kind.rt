@@ -1,5 +1,4 @@
 //! Types whose equal parts are shared.
-
 ghost use Rattle.std.specs.Prelude.{◌≡◌, ◌<◌, length, IfOk};
 ghost use Rattle.pst_model.specs.Kinds as kinds;
 ghost use Rattle.pst_typing.specs.Adding.{AreAdded, IsAdded};
@@ -9,8 +8,7 @@ ghost use Rattle.pst_value.specs.Equality.{same_ty};
 ghost use Rattle.pst_value.specs.declared.ty.Ty.TheVariants as ty;
 
 use crate::kinds::form::{KindForm, form_of, node_holds_ref_or_call};
-use crate::kinds::node::Node;
-use crate::kinds::nodes::Nodes;
+use crate::kinds::nodes::{Node, Nodes};
 use pst_value::{Items, KeyTy, Ty};
 use std::alloc::{AllocError, Global};
 use std::marker::Model;

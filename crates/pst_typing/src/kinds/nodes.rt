@@ -1,16 +1,27 @@
-//! A list of nodes, each of them once.
-
+//! Nodes, whose parts are numbers of nodes, and a list of nodes, each of them once.
 ghost use Rattle.std.specs.Prelude.{◌≡◌, true, [], ◌<◌, length, map, slice_index, IfOk};
 ghost use Rattle.pst_typing.specs.Adding as spec;
 ghost use Rattle.pst_typing.specs.Adding.{IsAdded};
 ghost use Rattle.pst_typing.specs.Nodes.{node_type, type_at, AreBelow, IsBelow};
 ghost use Rattle.pst_value.specs.Equality.{same_ty};
 
-use crate::kinds::node::Node;
 use indexmap::IndexSet;
-use pst_value::Items;
+use pst_value::{Items, KeyTy};
 use std::alloc::{AllocError, Global};
 use std::marker::Model;
+
+/// One form of a type, whose parts are numbers of nodes.
+#[derive(Debug, PartialEq, Eq, Hash, Drop)]
+pub enum Node {
+    Int,
+    Bool,
+    Text,
+    Tuple(Items<usize>),
+    List(usize),
+    Map(KeyTy, usize),
+    Ref(usize),
+    Call,
+}
 
 /// Nodes, each of them once, and none before its parts. Contracts see the list of their types.
 #[derive(Drop)]

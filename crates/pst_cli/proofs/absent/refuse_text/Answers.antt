@@ -1,7 +1,7 @@
 use Rattle.std.proofs.Common.{◌++◌, [], ℕ, List, subst}
 use Rattle.pst_cli.specs.Head.{line_end}
 use Rattle.pst_cli.specs.Sending.{Sends}
-use Rattle.pst_cli.specs.declared.status.Status.TheVariants.{Refused}
+use Rattle.pst_cli.specs.declared.output.Status.TheVariants.{Refused}
 use Rattle.pst_cli.proofs.absent.refuse_text.Goals as goal
 
 pub returns-in-NoSystem : goal.returns-in-NoSystem

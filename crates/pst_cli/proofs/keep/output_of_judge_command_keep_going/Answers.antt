@@ -1,6 +1,6 @@
 use Rattle.std.proofs.Common.{ap, ◌∙◌}
 use Rattle.pst_cli.specs.KeepingOn.{HoldsAnswers, shown_answer_lines, worst_status, answered, refused}
-use Rattle.pst_cli.specs.declared.status.Status.TheVariants.{Accepted}
+use Rattle.pst_cli.specs.declared.output.Status.TheVariants.{Accepted}
 use Rattle.pst_cli.proofs.keep.output_of_judge_command_keep_going.Goals as goal
 
 pub returns-in-Err-clause-output : goal.returns-in-Err-clause-output

@@ -1,7 +1,7 @@
 use Rattle.std.proofs.Common.{ap, ◌∙◌}
 use Rattle.pst_cli.specs.JsonOutput.{shown_objects, answered, refused}
 use Rattle.pst_cli.specs.KeepingOn.{HoldsAnswers, worst_status}
-use Rattle.pst_cli.specs.declared.status.Status.TheVariants.{Accepted}
+use Rattle.pst_cli.specs.declared.output.Status.TheVariants.{Accepted}
 use Rattle.pst_cli.proofs.objects.json_output_of_judge_command.Goals as goal
 
 pub returns-in-Err-clause-output : goal.returns-in-Err-clause-output

@@ -2,7 +2,7 @@ use Rattle.std.proofs.Common.{◌≡◌, refl}
 use Rattle.pst_cli.proofs.Reporting.{if_ok_both}
 use Rattle.pst_cli.specs.JsonOutput.{IsModelObject, accepted, refused, refusal_object}
 use Rattle.pst_cli.specs.declared.output.Output.{Output}
-use Rattle.pst_cli.specs.declared.status.Status.TheVariants.{Refused}
+use Rattle.pst_cli.specs.declared.output.Status.TheVariants.{Refused}
 use Rattle.pst_cli.proofs.objects.output_of_model_or_refusal_json.Goals as goal
 
 pub returns-in_ok-accepted_model_json_object-in-Ok : goal.returns-in_ok-accepted_model_json_object-in-Ok

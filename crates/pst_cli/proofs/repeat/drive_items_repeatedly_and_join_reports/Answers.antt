@@ -3,7 +3,7 @@ use Rattle.pst_cli.proofs.Reporting.{if_ok_both}
 use Rattle.pst_cli.specs.Outputs.{joined, worst_of}
 use Rattle.pst_cli.specs.RepeatOutput.{ReportsAll}
 use Rattle.pst_cli.specs.declared.output.Output.{Output}
-use Rattle.pst_cli.specs.declared.status.Status.TheVariants.{Accepted}
+use Rattle.pst_cli.specs.declared.output.Status.TheVariants.{Accepted}
 use Rattle.pst_cli.proofs.repeat.drive_items_repeatedly_and_join_reports.Goals as goal
 
 pub returns-clause-reported : goal.returns-clause-reported

@@ -5,7 +5,7 @@ use Rattle.pst_cli.specs.Head.{refusal_line}
 use Rattle.pst_cli.specs.Output.{run_line}
 use Rattle.pst_cli.specs.RepeatOutput.{ReportsAll, IsRepeatOutput, reported, run_refused, refused}
 use Rattle.pst_cli.specs.declared.output.Output.{Output}
-use Rattle.pst_cli.specs.declared.status.Status.TheVariants.{Refused}
+use Rattle.pst_cli.specs.declared.output.Status.TheVariants.{Refused}
 use Rattle.pst_typing.specs.Loading.{items_of}
 use Rattle.pst_runs.specs.Items.{runs_of}
 use Rattle.pst_cli.proofs.repeat.read_and_drive_items_repeatedly.Goals as goal

@@ -5,7 +5,7 @@ use Rattle.pst_cli.specs.Head.{refusal_line}
 use Rattle.pst_cli.specs.Output.{run_line}
 use Rattle.pst_cli.specs.RunOutput.{AreReported, IsRunOutput, reported, run_refused, refused}
 use Rattle.pst_cli.specs.declared.output.Output.{Output}
-use Rattle.pst_cli.specs.declared.status.Status.TheVariants.{Accepted, Refused}
+use Rattle.pst_cli.specs.declared.output.Status.TheVariants.{Accepted, Refused}
 use Rattle.pst_typing.specs.Loading.{items_of}
 use Rattle.pst_runs.specs.Items.{runs_of}
 use Rattle.pst_cli.proofs.run.read_and_drive_items_of_input.Goals as goal

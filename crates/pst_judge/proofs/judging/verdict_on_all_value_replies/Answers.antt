@@ -3,7 +3,7 @@ use Rattle.pst_case.specs.Shape.{result_types}
 use Rattle.pst_judge.proofs.Fitted.{prefix_fits, prefix_length}
 use Rattle.pst_judge.proofs.Furthest.{if_ok_map}
 use Rattle.pst_judge.proofs.FromReplay.{init_faults, init_letters, prefix_false, prefix_false_letters, prefix_faults, prefix_faults_letters, prefix_through, prefix_through_letters}
-use Rattle.pst_judge.specs.declared.running.EventsEnd.TheVariants.{Stopped}
+use Rattle.pst_judge.specs.declared.replay.EventsEnd.TheVariants.{Stopped}
 use Rattle.pst_judge.proofs.judging.verdict_on_all_value_replies.Goals as goal
 
 pub returns-in-Err-clause-verdict : goal.returns-in-Err-clause-verdict

@@ -1,7 +1,7 @@
 use Rattle.std.proofs.Common.{arith, ◌∷◌, ◌++◌, [], length, ap, ◌∙◌}
 use Rattle.std.proofs.lemmas.List.{length-replicate}
 use Rattle.pst_ledger.proofs.Opening.{replicate-more}
-use Rattle.pst_ledger.specs.declared.spot.Spot.TheVariants.{Free}
+use Rattle.pst_ledger.specs.declared.book.Spot.TheVariants.{Free}
 use Rattle.pst_ledger.proofs.book.free_spots.Goals as goal
 
 pub push_reserved-requires : goal.push_reserved-requires

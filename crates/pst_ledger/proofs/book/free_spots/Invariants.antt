@@ -1,6 +1,6 @@
 use Rattle.std.proofs.Common.{◌≡◌}
 use Rattle.std.specs.Prelude.{vec_capacity, replicate}
-use Rattle.pst_ledger.specs.declared.spot.Spot.TheVariants.{Free}
+use Rattle.pst_ledger.specs.declared.book.Spot.TheVariants.{Free}
 use Rattle.pst_ledger.proofs.book.free_spots.Given as goal
 
 abbrev pub invariant-loop : goal.invariant-loop

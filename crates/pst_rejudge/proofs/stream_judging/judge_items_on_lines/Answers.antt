@@ -1,7 +1,7 @@
 use Rattle.std.proofs.Common.{ap, ◌∙◌, ℕ, Vec, Global, subst, IfOk}
 use Rattle.std.specs.List.{AllZip}
 use Rattle.rayon.proofs.ToStd.{slice-AllZip}
-use Rattle.pst_rejudge.specs.declared.each.ItemResult.{ItemResult}
+use Rattle.pst_rejudge.specs.declared.reading.ItemResult.{ItemResult}
 use Rattle.pst_rejudge.proofs.Collected.{collected}
 use Rattle.pst_rejudge.specs.StreamAnswers.{IsLineAnswer}
 use Rattle.pst_rejudge.proofs.stream_judging.judge_items_on_lines.Goals as goal

@@ -1,6 +1,6 @@
 use Rattle.std.proofs.Common.{◌≡◌, ℕ, sym, ◌∙◌, ap, ⊎_elim, arith}
-use Rattle.pst_sexpr.specs.declared.fault.SexprFault.{SexprFault}
-use Rattle.pst_sexpr.specs.declared.fault.FaultKind.{FaultKind}
+use Rattle.pst_sexpr.specs.declared.reader.SexprFault.{SexprFault}
+use Rattle.pst_sexpr.specs.declared.reader.FaultKind.{FaultKind}
 use Rattle.pst_sexpr.proofs.One.{one_fault_within}
 use Rattle.pst_sexpr.proofs.laws.bytes_have_one_fault.Goals as goal
 

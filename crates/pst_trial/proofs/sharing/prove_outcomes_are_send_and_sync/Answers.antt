@@ -1,5 +1,5 @@
 use denote.Param.SendFields.{variants_send, variants_sync}
-use Rattle.pst_trial.specs.contracts.outcome.TrialOutcome.{enum}
+use Rattle.pst_trial.specs.contracts.record.TrialOutcome.{enum}
 use Rattle.pst_trial.proofs.sharing.prove_outcomes_are_send_and_sync.Goals as goal
 
 pub returns-clause-sent : goal.returns-clause-sent

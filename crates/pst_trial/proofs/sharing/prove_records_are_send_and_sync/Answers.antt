@@ -1,7 +1,7 @@
 use denote.Param.Send.{IsSend, IsSync, view_send, view_sync, sendable}
 use denote.Param.SendFields.{declared_send, declared_sync}
 use Rattle.pst_trial.proofs.sharing.prove_records_are_send_and_sync.Goals as goal
-use Rattle.pst_trial.specs.contracts.outcome.TrialOutcome.{the_row as outcome_row}
+use Rattle.pst_trial.specs.contracts.record.TrialOutcome.{the_row as outcome_row}
 use Rattle.pst_trial.specs.contracts.record.Record.TheInside.{the_type}
 use Rattle.std.proofs.Crossing.{Arc-send, Arc-sync}
 

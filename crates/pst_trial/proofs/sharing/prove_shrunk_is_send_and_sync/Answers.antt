@@ -1,7 +1,7 @@
 use denote.Param.Send.{sendable}
 use denote.Param.SendFields.{declared_send, declared_sync}
-use Rattle.pst_shrink.specs.contracts.shrunk.Shrunk.{the_type}
-use Rattle.pst_trial.specs.contracts.run.JudgedRun.{the_row as run_row}
+use Rattle.pst_shrink.specs.contracts.shrinking.Shrunk.{the_type}
+use Rattle.pst_trial.specs.contracts.record.JudgedRun.{the_row as run_row}
 use Rattle.pst_trial.proofs.sharing.prove_shrunk_is_send_and_sync.Goals as goal
 
 pub returns-clause-sent : goal.returns-clause-sent

@@ -1,6 +1,6 @@
 use Rattle.std.proofs.lemmas.Result.{IfOk-weaker}
 use Rattle.pst_judge.proofs.Fitted.{prefix_within, branches_within, suffix_within}
-use Rattle.pst_shrink.specs.declared.attempt.AttemptOutcome.TheVariants.{Broke}
+use Rattle.pst_shrink.specs.declared.shrinking.AttemptOutcome.TheVariants.{Broke}
 use Rattle.pst_trial.specs.Moving.{answer_after}
 use Rattle.pst_trial.proofs.Sounding.{room, tried_moves}
 use Rattle.pst_trial.proofs.trials.drive_case_and_shrink_if_unexplained.Goals as goal

@@ -1,8 +1,8 @@
 -- The system in a box may be sent to threads, and shared by them.
 use denote.Param.Sent.{Sends, Syncs}
 use Rattle.pst_thread_tests.proofs.overhearing.misfits_are_unrecorded_without_a_model.OwnLists as own
-use Rattle.pst_tests.proofs.systems.Liar.TheSendSync as liar_crosses
-use Rattle.pst_tests.specs.contracts.systems.Liar as liar
+use Rattle.pst_tests.proofs.support.Liar.TheSendSync as liar_crosses
+use Rattle.pst_tests.specs.contracts.support.Liar as liar
 use Rattle.pst_driver.proofs.Sent.{boxed_send, boxed_sync}
 
 pub sends-part-1-1 : Sends own.part-1-1

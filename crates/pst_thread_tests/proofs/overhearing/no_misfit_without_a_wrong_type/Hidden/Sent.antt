@@ -1,8 +1,8 @@
 -- The system in a box may be sent to threads, and shared by them.
 use denote.Param.Sent.{Sends, Syncs}
 use Rattle.pst_thread_tests.proofs.overhearing.no_misfit_without_a_wrong_type.OwnLists as own
-use Rattle.pst_tests.proofs.systems.CounterWithoutGet.TheSendSync as no_get_crosses
-use Rattle.pst_tests.specs.contracts.systems.CounterWithoutGet as no_get
+use Rattle.pst_tests.proofs.support.CounterWithoutGet.TheSendSync as no_get_crosses
+use Rattle.pst_tests.specs.contracts.support.CounterWithoutGet as no_get
 use Rattle.pst_driver.proofs.Sent.{boxed_send, boxed_sync}
 
 pub sends-part-1-1 : Sends own.part-1-1

@@ -6,14 +6,14 @@ use Rattle.pst.proofs.fn.main.spawn.OwnLists as own
 use Rattle.pst_clients.proofs.Sent as clients
 use Rattle.pst_driver.proofs.Sent.{boxed_send, boxed_sync}
 use Rattle.pst_samples.proofs.counter.Counter.TheSendSync as counter_crosses
-use Rattle.pst_samples.proofs.racy.Racy.TheSendSync as racy_crosses
-use Rattle.pst_samples.proofs.stuck.Stuck.TheSendSync as stuck_crosses
+use Rattle.pst_samples.proofs.counter.Racy.TheSendSync as racy_crosses
+use Rattle.pst_samples.proofs.counter.Stuck.TheSendSync as stuck_crosses
 use Rattle.pst_samples.proofs.registry.Registry.TheSendSync as registry_crosses
 use Rattle.pst_samples.proofs.queue.Queue.TheSendSync as queue_crosses
 use Rattle.pst_samples.proofs.meet.Meet.TheSendSync as meet_crosses
 use Rattle.pst_samples.specs.contracts.counter.Counter as counter
-use Rattle.pst_samples.specs.contracts.racy.Racy as racy
-use Rattle.pst_samples.specs.contracts.stuck.Stuck as stuck
+use Rattle.pst_samples.specs.contracts.counter.Racy as racy
+use Rattle.pst_samples.specs.contracts.counter.Stuck as stuck
 use Rattle.pst_samples.specs.contracts.registry.Registry as registry
 use Rattle.pst_samples.specs.contracts.queue.Queue as queue
 use Rattle.pst_samples.specs.contracts.meet.Meet as meet

@@ -1,0 +1,194 @@
+//! Refusals, errors and warnings on an input: messages on standard error, or JSON.
+
+use crate::subcommands::is_json_selected;
+use clap::ArgMatches;
+use pst_cli::{Absence, Status, refuse_text};
+use pst_messages::{
+    MessageScope, input_error_messages_text, input_error_notices, input_warning_notices,
+    input_warnings_text,
+};
+use pst_rejudge::{Field, FieldName, add_number_field, add_text_field, json_object_line};
+use pst_sexpr::Out;
+use pst_sources::{
+    Input, Notice, NoticePlace, Notices, SourceFile, joined_text_of_files, place_of_notice,
+};
+use pst_value::Text;
+use std::alloc::{AllocError, Global};
+use std::io;
+use std::rt::Runtime;
+
+/// Writes `refused memory` to standard output, and returns the status that the program ends with.
+pub fn print_memory_refusal<R: Runtime>(rt: &R) -> Status {
+    refuse_text(Absence::NoMemory, &mut Out::new(io::writer(rt)))
+}
+
+/// Returns what to write messages for, by the command `subcommand` and its arguments.
+fn message_scope_of_subcommand(subcommand: &str, arguments: &ArgMatches<'_>) -> MessageScope {
+    match subcommand {
+        "judge" if arguments.get_flag("stream") => MessageScope::Model,
+        "judge" if arguments.get_flag("keep-going") || is_json_selected(arguments) => {
+            if arguments.get_flag("all-messages") {
+                MessageScope::AllItems
+            } else {
+                MessageScope::EachItem
+            }
+        }
+        "judge" | "run" | "explain" | "convert" => MessageScope::FirstItem,
+        _ => MessageScope::Model,
+    }
+}
+
+/// Writes to standard error that there is no item with the number that the arguments of `explain` give.
+fn print_that_item_number_is_missing<R: Eprint>(rt: &R, arguments: &ArgMatches<'_>) {
+    let item: Option<u64> = arguments.get_one("item");
+    if let Some(item) = item {
+        let _ = eprintln!(rt; "pst: there is no item {item}: --item counts cases and runs from 1");
+    }
+}
+
+/// Writes the messages on the refusals of an input to standard error, for the command `subcommand`. If an allocation fails or
+/// a message cannot be written, the lines of the refusals and the status remain without it.
+pub fn print_refusal_messages_to_stderr<R: Eprint + AllocGlobal>(
+    rt: &R,
+    subcommand: &str,
+    arguments: &ArgMatches<'_>,
+    files: &[SourceFile<'_>],
+) {
+    let scope = message_scope_of_subcommand(subcommand, arguments);
+    let Ok(text) = joined_text_of_files(rt.alloc(), files) else {
+        return;
+    };
+    match input_error_messages_text(rt.alloc(), files, text.as_slice(), scope) {
+        Ok(Some(message)) => {
+            let _ = eprint!(rt; "{message}");
+        }
+        Ok(None) if subcommand == "explain" => print_that_item_number_is_missing(rt, arguments),
+        _ => {}
+    }
+}
+
+/// Writes the warnings on an input to standard error. If an allocation fails or they cannot be written, the line and
+/// the status remain without them.
+pub fn print_input_warnings_to_stderr<R: Eprint>(
+    rt: &R,
+    alloc: Global,
+    files: &[SourceFile<'_>],
+    input: &[u8],
+) {
+    if let Ok(Some(warnings)) = input_warnings_text(alloc, files, input) {
+        let _ = eprint!(rt; "{warnings}");
+    }
+}
+
+/// Returns the strings as texts.
+fn texts_of_strings(alloc: Global, strings: Vec<String>) -> Result<Vec<Text>, AllocError> {
+    let mut texts = Vec::new(alloc);
+    for string in strings {
+        texts.push(Text::from_string(string))?;
+    }
+    Ok(texts)
+}
+
+/// Returns the fields of an error or a warning that say its severity and its place.
+fn severity_and_place_fields(
+    alloc: Global,
+    is_warning: bool,
+    place: &NoticePlace<'_>,
+) -> Result<Vec<Field>, AllocError> {
+    let severity = if is_warning { "warning" } else { "error" };
+    let mut fields = Vec::new(alloc);
+    add_text_field(alloc, &mut fields, FieldName::Severity, severity)?;
+    add_text_field(alloc, &mut fields, FieldName::File, place.file)?;
+    add_number_field(&mut fields, FieldName::Line, place.line as u64)?;
+    add_number_field(&mut fields, FieldName::Column, place.column as u64)?;
+    add_number_field(&mut fields, FieldName::Start, place.start as u64)?;
+    add_number_field(&mut fields, FieldName::End, place.end as u64)?;
+    Ok(fields)
+}
+
+/// Adds the fields of an error or a warning that say what is wrong, and its notes.
+fn add_message_and_note_fields(
+    alloc: Global,
+    fields: &mut Vec<Field>,
+    notice: Notice,
+) -> Result<(), AllocError> {
+    let Notice {
+        span: _,
+        is_warning: _,
+        what,
+        notes,
+        lines,
+    } = notice;
+    fields.push(Field::Words(FieldName::Message, Text::from_string(what)))?;
+    fields.push(Field::Lines(FieldName::Notes, texts_of_strings(alloc, notes)?))?;
+    if !lines.is_empty() {
+        fields.push(Field::Words(FieldName::Explanation, Text::from_string(lines)))?;
+    }
+    Ok(())
+}
+
+/// Returns the object of an error or a warning: its severity, its place, what is wrong, and notes.
+fn json_line_of_notice(
+    alloc: Global,
+    input: &Input<'_>,
+    notice: Notice,
+) -> Result<Vec<u8>, AllocError> {
+    let place = place_of_notice(alloc, input, &notice)?;
+    let mut fields = severity_and_place_fields(alloc, notice.is_warning, &place)?;
+    add_message_and_note_fields(alloc, &mut fields, notice)?;
+    json_object_line(alloc, fields.as_slice())
+}
+
+/// Returns the objects of errors and warnings on an input, a line each.
+fn json_lines_of_notices(
+    alloc: Global,
+    input: &Input<'_>,
+    notices: Notices,
+) -> Result<Vec<u8>, AllocError> {
+    let mut text = Vec::new(alloc);
+    let Notices { all, more } = notices;
+    for notice in all {
+        text.extend_from_slice(json_line_of_notice(alloc, input, notice)?.as_slice())?;
+    }
+    if !more.is_empty() {
+        let mut fields = Vec::new(alloc);
+        add_text_field(alloc, &mut fields, FieldName::Severity, "error")?;
+        add_text_field(alloc, &mut fields, FieldName::Message, more.as_str().trim())?;
+        text.extend_from_slice(json_object_line(alloc, fields.as_slice())?.as_slice())?;
+    }
+    Ok(text)
+}
+
+/// Returns the objects of the errors of a model, or of the warnings on it if it is accepted, a line each.
+fn json_lines_of_errors_else_warnings(
+    alloc: Global,
+    input: &Input<'_>,
+) -> Result<Vec<u8>, AllocError> {
+    let errors = input_error_notices(alloc, input, MessageScope::Model)?;
+    if errors.all.is_empty() {
+        json_lines_of_notices(alloc, input, input_warning_notices(alloc, input)?)
+    } else {
+        json_lines_of_notices(alloc, input, errors)
+    }
+}
+
+/// Returns whether the errors and warnings are part of the output.
+pub fn is_check_with_json_output(subcommand: &str, arguments: &ArgMatches<'_>) -> bool {
+    subcommand == "check" && is_json_selected(arguments)
+}
+
+/// Returns the objects of the errors and warnings on a model, a line each. There are no lines if the arguments forbid
+/// them, or if an allocation for them fails.
+pub fn json_lines_of_notices_unless_quiet(
+    alloc: Global,
+    arguments: &ArgMatches<'_>,
+    input: &Input<'_>,
+) -> Vec<u8> {
+    if arguments.get_flag("quiet") {
+        return Vec::new(alloc);
+    }
+    match json_lines_of_errors_else_warnings(alloc, input) {
+        Ok(lines) => lines,
+        Err(AllocError) => Vec::new(alloc),
+    }
+}

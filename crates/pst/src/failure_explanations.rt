@@ -1,0 +1,237 @@
+//! Explanations on standard error: why no interleaving explains a driven run or the least failure of a campaign,
+//! and why the first trial without a case has none.
+ghost use Rattle.pst_trial.specs.Settings.{AreInRange};
+
+use pst_case::{Case, Command, History, Reply};
+use pst_cli::{CampaignNotes, compile_model_and_explain_failed_run};
+use pst_driver::has_only_value_replies;
+use pst_messages::explanation_why_trial_has_no_case;
+use pst_trial::Settings;
+use pst_value::Items;
+use std::alloc::{AllocError, Global};
+
+/// Writes why trial `number` has no case.
+fn print_why_trial_has_no_case<R: Eprint>(
+    rt: &R,
+    alloc: Global,
+    settings: Settings,
+    input: &[u8],
+    number: usize,
+)
+    requires { AreInRange settings }
+{
+    let text = explanation_why_trial_has_no_case(
+        alloc,
+        input,
+        settings.seed,
+        number as u64,
+        settings.commands,
+    );
+    if let Ok(Some(text)) = text {
+        let _ = eprint!(rt; "trial {number} has no case:\n{text}");
+    }
+}
+
+/// Writes to standard error why no interleaving explains the least failure of a campaign, if it has a failure; the
+/// failure with the fewest calls, if another one has fewer; and why the first trial without a case has none, if there
+/// is such a trial. Lines of explanations have at most `line_width` bytes. If an allocation fails or the text cannot be written, the report and the status remain without it.
+pub fn print_campaign_explanations_to_stderr<R: Eprint>(
+    rt: &R,
+    alloc: Global,
+    settings: Settings,
+    input: &[u8],
+    notes: &mut CampaignNotes,
+    line_width: usize,
+)
+    requires { AreInRange settings }
+{
+    if let Some((case, history)) = notes.least.take() {
+        print_least_failure_explanation_with_note(rt, alloc, input, case, history, line_width);
+    }
+    if let Some(shorter) = notes.shorter {
+        let calls = if shorter.commands == 1 {
+            "call"
+        } else {
+            "calls"
+        };
+        let _ = eprintln!(rt;
+            "trial {} failed with {} {calls}, fewer than these {}: --save keeps each failing case",
+            shorter.number, shorter.commands, shorter.commands_of_first
+        );
+    }
+    if let Some(number) = notes.first_genfault {
+        print_why_trial_has_no_case(rt, alloc, settings, input, number);
+    }
+}
+
+/// The words of an explanation of one wrong answer.
+const ONE_WRONG: &str = "This answer cannot be right";
+
+/// The note on a wrong answer.
+const NOTE: &str = "  The first call is already wrong in the initial state of the model. Are `init`
+  and the postcondition right? Does reset restore that state? Has each worker
+  (PST_WORKER) a system of its own?
+";
+
+/// The note on a run in which no two calls were made at the same time.
+const IN_TURN_NOTE: &str =
+    "  No two calls of this run were made at the same time, so it shows no race. Is
+  the model right? Has each worker (PST_WORKER) a system of its own? Do all
+  clients of a worker use this system, or does each keep a state for itself?
+";
+
+/// The first words of an explanation of a fault.
+const FAULT: &str = "  The callback ";
+
+/// The first words of an explanation of a postcondition that faults.
+const POST_FAULT: &str = "  The callback post of ";
+
+/// The note on a postcondition that faults.
+const FAULT_NOTE: &str =
+    "  The postcondition faults on the first call, in the initial state: mend the
+  model, so that the postcondition is true or false whatever is answered.
+";
+
+/// Returns the command that is called before all others, and its reply: the first of the prefix, or of the only branch
+/// that has commands.
+fn first_command_and_reply_if_certain<'a>(
+    case: &'a Case,
+    history: &'a History,
+) -> Option<(&'a Command, &'a Reply)> {
+    if let Some(command) = case.prefix.get(0) {
+        return Some((command, history.prefix.get(0)?));
+    }
+    let mut first = None;
+    let replies = history.branches.as_slice();
+    for (branch, replies) in case.branches.as_slice().iter().zip(replies.iter()) {
+        if let Some(command) = branch.get(0) {
+            if first.is_some() {
+                return None;
+            }
+            first = Some((command, replies.get(0)?));
+        }
+    }
+    first
+}
+
+/// Returns whether at most one branch of a case has commands.
+fn has_at_most_one_branch_with_commands(case: &Case) -> bool {
+    let branches = case.branches.as_slice().iter();
+    branches.filter(|branch| !branch.is_empty()).count() <= 1
+}
+
+/// Returns two empty branches.
+fn two_empty_branches<T: Drop>(alloc: Global) -> Result<Items<Items<T>>, AllocError> {
+    let mut branches = Items::new(alloc);
+    branches.push(Items::new(alloc))?;
+    branches.push(Items::new(alloc))?;
+    Ok(branches)
+}
+
+/// Returns a run of one command.
+fn case_and_history_of_one_command(
+    alloc: Global,
+    command: &Command,
+    reply: &Reply,
+) -> Result<(Case, History), AllocError> {
+    let mut commands = Items::new(alloc);
+    commands.push(command.copy(alloc)?)?;
+    let mut replies = Items::new(alloc);
+    replies.push(reply.copy(alloc)?)?;
+    let case = Case {
+        prefix: commands,
+        branches: two_empty_branches(alloc)?,
+        suffix: Items::new(alloc),
+    };
+    let history = History {
+        prefix: replies,
+        branches: two_empty_branches(alloc)?,
+        suffix: Items::new(alloc),
+    };
+    Ok((case, history))
+}
+
+/// Returns the note on an explanation of a run of one command, in the initial state of the model.
+fn note_if_explanation_finds_call_wrong(text: &str) -> &'static str {
+    if text.starts_with(POST_FAULT) {
+        FAULT_NOTE
+    } else if text.contains(ONE_WRONG) && !text.starts_with(FAULT) {
+        NOTE
+    } else {
+        ""
+    }
+}
+
+/// Returns the note on the first call of a run, in the initial state of the model. It is empty if the call is
+/// right there.
+fn note_if_first_call_is_wrong(
+    alloc: Global,
+    input: &[u8],
+    case: &Case,
+    history: &History,
+) -> Result<&'static str, AllocError> {
+    let Some((command, reply)) = first_command_and_reply_if_certain(case, history) else {
+        return Ok("");
+    };
+    let (case, history) = case_and_history_of_one_command(alloc, command, reply)?;
+    match compile_model_and_explain_failed_run(alloc, input, case, history, usize::MAX)? {
+        Some(text) => match std::str::from_utf8(text.as_slice()) {
+            Ok(text) => Ok(note_if_explanation_finds_call_wrong(text)),
+            Err(_) => Ok(""),
+        },
+        None => Ok(""),
+    }
+}
+
+/// Writes why no interleaving explains the least failure of a campaign, to standard error, and a note if one applies. The
+/// lines of the explanation have at most `line_width` bytes. The model is at the beginning of `input`. If an allocation fails or a text cannot be written, nothing else is said.
+fn print_least_failure_explanation_with_note<R: Eprint>(
+    rt: &R,
+    alloc: Global,
+    input: &[u8],
+    case: Case,
+    history: History,
+    line_width: usize,
+) {
+    let in_turn = if has_at_most_one_branch_with_commands(&case)
+        && has_only_value_replies(&history)
+    {
+        IN_TURN_NOTE
+    } else {
+        ""
+    };
+    let note = note_if_first_call_is_wrong(alloc, input, &case, &history);
+    print_explanation_if_run_failed(
+        rt,
+        alloc,
+        "the least failure:",
+        input,
+        case,
+        history,
+        line_width,
+    );
+    if let Ok(note) = note {
+        let note = if note.is_empty() { in_turn } else { note };
+        let _ = eprint!(rt; "{note}");
+    }
+}
+
+/// Writes a heading and why no interleaving explains a run, to standard error, in lines of at most `line_width` bytes. The
+/// model is at the beginning of `input`. If an allocation fails or the text cannot be written, the run and its verdict remain without it.
+pub fn print_explanation_if_run_failed<R: Eprint>(
+    rt: &R,
+    alloc: Global,
+    heading: &str,
+    input: &[u8],
+    case: Case,
+    history: History,
+    line_width: usize,
+) {
+    let explanation = compile_model_and_explain_failed_run(alloc, input, case, history, line_width);
+    let Ok(Some(text)) = explanation else {
+        return;
+    };
+    if let Ok(text) = std::str::from_utf8(text.as_slice()) {
+        let _ = eprint!(rt; "{heading}\n{text}");
+    }
+}

@@ -1,0 +1,19 @@
+use Rattle.std.proofs.Common.{◌≡◌, ◌∙◌, refl}
+use Rattle.pst_cli.proofs.Reporting.{if_ok_both}
+use Rattle.pst_cli.specs.Head.{refusal_line}
+use Rattle.pst_cli.specs.ListOutput.{IsListOutput, accepted, refused}
+use Rattle.pst_cli.specs.declared.output.Output.{Output}
+use Rattle.pst_cli.specs.declared.output.Status.TheVariants.{Refused}
+use Rattle.pst_cli.proofs.model_commands.output_of_list_command.Goals as goal
+
+pub returns-in_ok-text-in-Ok : goal.returns-in_ok-text-in-Ok
+returns-in_ok-text-in-Ok c =
+    accepted c.in-Ok.file.compiled c.in-Ok.file.trees.items (rw c.in-Ok.is at c.in_ok-file.ensures) (c.into_vec.ensures ∙ c.in_ok-text-in-Ok.ensures) refl
+
+pub returns-in-Err : goal.returns-in-Err
+returns-in-Err c =
+    let HasText : Output → Type 0 = λ o. o.text.items ≡ refusal_line c.in-Err.refusal in
+    let IsRefused : Output → Type 0 = λ o. o.status ≡ Refused in
+    let IsSo : Output → Type 0 = λ o. IsListOutput c.args.input.now o.text.items o.status in
+    if_ok_both HasText IsRefused IsSo (λ o t s. refused c.in-Err.refusal (rw c.in-Err.is at c.in_ok-file.ensures) t s)
+    c.refusal_output.result c.refusal_output.ensures.text c.refusal_output.ensures.status

@@ -1,0 +1,262 @@
+//! Reads an input: its model, compiled, and the items after it, judged; says which runs are kept, and that threads
+//! may share models and judgements.
+//!
+//! The functions on threads do nothing; their contracts say that the types are `Sync`.
+ghost use Rattle.std.specs.Prelude.{◌≡◌, IfOk, MatchResult, true, IfSome};
+ghost use Rattle.pst_typing.specs.Loading.{Holds, IsRefusal};
+ghost use Rattle.pst_cli.specs.Output.{HoldsRuns, IsFirstRefusal};
+ghost use Rattle.pst_cli.specs.Kept.{HoldsJudged, keeps_all};
+ghost use Rattle.pst_rejudge.specs.Parts.{joined};
+ghost use Rattle.std.specs.Thread.{IsSync};
+ghost use Rattle.pst_compile.specs.contracts.compiled.Compiled.{the_row as compiled_row};
+ghost use Rattle.pst_judge.specs.contracts.judgement.Judged.{the_row as judged_row};
+
+use crate::judge::{output_of_refused_run, read_runs_of_trees};
+use crate::output::{Output, refusal_output};
+use pst_case::Run;
+use pst_compile::{Code, Compiled, compile};
+use pst_explain::tree_places_in_input;
+use pst_judge::Judged;
+use pst_model::{Expr, Item, Typed};
+use pst_rejudge::{
+    JudgedParts, ProgressCounter, read_and_judge_in_parts, rejudge_with_progress,
+    split_before_second_bracket_line,
+};
+use pst_sexpr::{MAX_BYTES, Tree};
+use pst_typing::{ModelFile, Refusal, load, trees_after_model};
+use std::alloc::{AllocError, Global};
+use std::thread::Threads;
+
+/// A file of trees whose first tree is a well-typed model, and that model, compiled.
+#[derive(Drop)]
+pub struct CompiledModelAndTrees {
+    /// The model.
+    pub compiled: Compiled,
+    /// All trees, that of the model among them.
+    pub trees: Vec<Tree>,
+}
+
+/// Compiles the model at the start of the input, and returns it with all trees of the input; or returns the first
+/// refusal.
+pub fn compile_model_of_input(
+    alloc: Global,
+    input: &[u8],
+) -> Result<Result<CompiledModelAndTrees, Refusal>, AllocError>
+    ensures { IfOk result (λ read. MatchResult read
+        (λ file. Holds input.now file.compiled file.trees.items)
+        (λ refusal. IsRefusal input.now refusal)) }
+{
+    match load(alloc, input)? {
+        Ok(ModelFile { typed, trees }) => match compile(alloc, typed) {
+            Ok(compiled) => Ok(Ok(CompiledModelAndTrees { compiled, trees })),
+            Err(_) => Err(AllocError),
+        },
+        Err(refusal) => Ok(Err(refusal)),
+    }
+}
+
+/// A model, and the runs after it.
+#[derive(Drop)]
+pub struct ModelAndRuns {
+    /// The model.
+    pub compiled: Compiled,
+    /// The runs, in their order.
+    pub runs: Vec<Run>,
+}
+
+/// Returns how many items an input has after its model. The input must be read without a fault.
+pub fn count_items_of_input(alloc: Global, input: &[u8]) -> Result<usize, AllocError> {
+    let trees = tree_places_in_input(alloc, &[], input)?;
+    Ok(trees.len().saturating_sub(1))
+}
+
+/// Reads the input from its first byte to its last, and returns the model and the runs, or the output for the first
+/// refusal.
+pub fn read_model_and_runs_of_input(
+    alloc: Global,
+    input: &[u8],
+) -> Result<Result<ModelAndRuns, Output>, AllocError>
+    ensures { IfOk result (λ read. MatchResult read
+        (λ file. HoldsRuns input.now file.compiled file.runs.items)
+        (λ output. IsFirstRefusal input.now output.text.items output.status)) }
+{
+    let CompiledModelAndTrees { compiled, trees } = match compile_model_of_input(alloc, input)? {
+        Ok(file) => file,
+        Err(refusal) => return Ok(Err(refusal_output(alloc, &refusal)?)),
+    };
+    match read_runs_of_trees(alloc, compiled.typed(), trees_after_model(trees.as_slice()))? {
+        Ok(runs) => Ok(Ok(ModelAndRuns { compiled, runs })),
+        Err(fault) => Ok(Err(output_of_refused_run(alloc, &fault)?)),
+    }
+}
+
+/// A model, the items after it, and the judgement on each.
+#[derive(Drop)]
+pub struct JudgedFile {
+    /// The model.
+    pub compiled: Compiled,
+    /// The items after the model, in the parts in which they were read, if they are kept.
+    pub runs: Vec<Vec<Run>>,
+    /// Their judgements, in the order of the items.
+    pub judged: Vec<Judged>,
+}
+
+/// Reads and judges parts of the input on several threads at once. Keeps the judgements of each part, and its runs as
+/// `keep` says. Returns `None`, which says nothing about the input, if the input is over `MAX_BYTES`, if it does not
+/// begin with a well-typed model alone before the next line that begins with a bracket, or if some part of the rest
+/// cannot be read by itself.
+fn read_and_judge_in_parallel_if_possible<R: Threads + Sync>(
+    rt: &R,
+    alloc: Global,
+    input: &[u8],
+    keep: Keep,
+    steps: &ProgressCounter,
+) -> Result<Option<JudgedFile>, AllocError>
+    ensures { IfOk result (λ read. IfSome read (λ file.
+        HoldsJudged (keeps_all keep) input.now file.compiled (joined file.runs.items) file.judged.items)) }
+{
+    if input.len() > MAX_BYTES {
+        return Ok(None);
+    }
+    let Some((head, rest)) = split_before_second_bracket_line(input) else {
+        return Ok(None);
+    };
+    let Ok(CompiledModelAndTrees { compiled, trees }) = compile_model_of_input(alloc, head)? else {
+        return Ok(None);
+    };
+    if trees.len() != 1 {
+        return Ok(None);
+    }
+    prove_compiled_models_are_sync();
+    let keeps = keep.keeps_runs_of_model(compiled.typed());
+    match read_and_judge_in_parts(rt, &compiled, alloc, compiled.typed(), rest, keeps, steps)? {
+        Some(JudgedParts { runs, judged }) => Ok(Some(JudgedFile {
+            compiled,
+            runs,
+            judged,
+        })),
+        None => Ok(None),
+    }
+}
+
+/// Runs as one part.
+fn wrap_runs_in_one_list(alloc: Global, runs: Vec<Run>) -> Result<Vec<Vec<Run>>, AllocError>
+    ensures { IfOk result (λ parts. joined parts.items ≡ runs.items) }
+{
+    let mut parts = Vec::new(alloc);
+    parts.push(runs)?;
+    Ok(parts)
+}
+
+/// The runs of all parts, in order.
+pub fn concatenate_run_lists(alloc: Global, parts: Vec<Vec<Run>>) -> Result<Vec<Run>, AllocError>
+    ensures { IfOk result (λ runs. runs.items ≡ joined parts.items) }
+{
+    let mut runs = Vec::new(alloc);
+    for mut part in parts {
+        runs.append(&mut part)?;
+    }
+    Ok(runs)
+}
+
+/// Reads the input from its first byte to its last and then judges its items, several at once. Returns the items and
+/// judgements, or the output for the first refusal.
+fn read_all_runs_then_judge_in_parallel<R: Threads + Sync>(
+    rt: &R,
+    alloc: Global,
+    input: &[u8],
+    steps: &ProgressCounter,
+) -> Result<Result<JudgedFile, Output>, AllocError>
+    ensures { IfOk result (λ read. MatchResult read
+        (λ file. HoldsJudged true input.now file.compiled (joined file.runs.items) file.judged.items)
+        (λ output. IsFirstRefusal input.now output.text.items output.status)) }
+{
+    let ModelAndRuns { compiled, runs } = match read_model_and_runs_of_input(alloc, input)? {
+        Ok(read) => read,
+        Err(output) => return Ok(Err(output)),
+    };
+    prove_compiled_models_are_sync();
+    steps.restart_with_total(runs.len());
+    let judged = rejudge_with_progress(rt, &compiled, alloc, runs.as_slice(), steps)?;
+    let runs = wrap_runs_in_one_list(alloc, runs)?;
+    Ok(Ok(JudgedFile {
+        compiled,
+        runs,
+        judged,
+    }))
+}
+
+/// The judgements on the items of an input, several judged at once, or the output for the first refusal. `keep` says
+/// which items to keep; more may be kept. `steps` counts the items that are judged.
+pub fn read_and_judge_file<R: Threads + Sync>(
+    rt: &R,
+    alloc: Global,
+    input: &[u8],
+    keep: Keep,
+    steps: &ProgressCounter,
+) -> Result<Result<JudgedFile, Output>, AllocError>
+    ensures { IfOk result (λ read. MatchResult read
+        (λ file. HoldsJudged (keeps_all keep) input.now file.compiled (joined file.runs.items) file.judged.items)
+        (λ output. IsFirstRefusal input.now output.text.items output.status)) }
+{
+    match read_and_judge_in_parallel_if_possible(rt, alloc, input, keep, steps)? {
+        Some(file) => Ok(Ok(file)),
+        None => read_all_runs_then_judge_in_parallel(rt, alloc, input, steps),
+    }
+}
+
+/// Which runs of an input to keep beside their judgements.
+#[derive(Clone, Copy, Drop)]
+pub(crate) enum Keep {
+    /// All of them.
+    All,
+    /// All of them if the precondition of some operation is another expression than `true`, else none.
+    ForWarnings,
+    /// None of them.
+    Nothing,
+}
+
+/// Whether the precondition of an operation is another expression than `true`.
+fn has_nontrivial_precondition(item: &Item) -> bool {
+    match item {
+        Item::Op(op) => !matches!(&op.pre, Expr::Bool(true)),
+        _ => false,
+    }
+}
+
+impl Keep {
+    /// Whether to keep runs over a model.
+    pub(crate) fn keeps_runs_of_model(self, typed: &Typed) -> bool
+        ensures { keeps_all self ≡ true → result ≡ true }
+    {
+        match self {
+            Keep::All => true,
+            Keep::ForWarnings => {
+                let items = typed.source().items.as_slice();
+                items.iter().any(|item| has_nontrivial_precondition(item))
+            }
+            Keep::Nothing => false,
+        }
+    }
+}
+
+/// Threads may share a `Sync` type.
+fn prove_sync<T: Sync>()
+    ensures { IsSync T.row }
+{}
+
+/// Threads may share compiled models.
+pub(crate) fn prove_compiled_models_are_sync()
+    ensures { IsSync compiled_row }
+{
+    prove_sync::<Typed>();
+    prove_sync::<Code>();
+    prove_sync::<Compiled>()
+}
+
+/// Threads may share judgements.
+pub(crate) fn prove_judgements_are_sync()
+    ensures { IsSync judged_row }
+{
+    prove_sync::<Judged>()
+}

@@ -1,5 +1,0 @@
-use Rattle.std.proofs.Common.{length}
-use Rattle.pst_messages.proofs.failing.+are_results_known.Given as goal
-
-abbrev pub decreases-are_results_known : goal.decreases-are_results_known
-decreases-are_results_known l = length l.results.now

@@ -1,5 +1,0 @@
-use Rattle.std.proofs.Common.{length}
-use Rattle.pst_model.proofs.parts.+find_state_type.Given as goal
-
-abbrev pub decreases-find_state_type : goal.decreases-find_state_type
-decreases-find_state_type l = length l.items.now

@@ -1,4 +1,0 @@
-use Rattle.pst_reasons.proofs.numbers.+command_numbers_up_to.Given as goal
-
-abbrev pub decreases-command_numbers_up_to : goal.decreases-command_numbers_up_to
-decreases-command_numbers_up_to l = l.last

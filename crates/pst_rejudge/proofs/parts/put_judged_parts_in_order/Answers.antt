@@ -1,0 +1,11 @@
+use Rattle.std.proofs.Common.{All, Vec, Global}
+use Rattle.pst_rejudge.proofs.Placed.{before_last}
+use Rattle.pst_rejudge.specs.Places.{StandsIn}
+use Rattle.pst_rejudge.specs.declared.parts.JudgedPart.{JudgedPart}
+use Rattle.pst_rejudge.proofs.parts.put_judged_parts_in_order.Goals as goal
+
+pub loop-taken-preserved : goal.loop-taken-preserved
+loop-taken-preserved c m keeps all =
+    let Stand : Vec JudgedPart Global → Type 0 = λ taken. All (StandsIn m keeps c.args.parts.now) taken.items in
+    let both = before_last Stand c.loop-taken.yielded c.in-Some.taken all in
+    c.put_judged_parts_into_places-places.ensures m keeps c.args.parts.now (c.loop-taken.invariant m keeps both.0) both.1

@@ -1,6 +1,0 @@
-use Rattle.std.proofs.Common.{All}
-use Rattle.pst_rejudge.specs.Places.{StandsIn}
-use Rattle.pst_rejudge.proofs.taking.take_and_judge_remaining_parts.Given as goal
-
-abbrev pub invariant-loop : goal.invariant-loop
-invariant-loop g l = All (StandsIn (g.C.Callbacks.model l.callbacks) l.keeps l.parts) l.taken.items

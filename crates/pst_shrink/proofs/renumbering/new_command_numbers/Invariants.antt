@@ -1,6 +1,0 @@
-use Rattle.std.proofs.Common.{◌≡◌}
-use Rattle.pst_shrink.specs.Number.{numbers_by}
-use Rattle.pst_shrink.proofs.renumbering.new_command_numbers.Given as goal
-
-abbrev pub invariant-loop-before : goal.invariant-loop-before
-invariant-loop-before l = l.numbers.items ≡ numbers_by l.by l.before
