@@ -24,7 +24,7 @@ class Bench:
     """The program, its peers, and how each is measured."""
 
     def __init__(self, top, room, program, inputs):
-        self.peers = os.path.join(top, "bench", "peers")
+        self.top, self.peers = top, os.path.join(top, "bench", "peers")
         self.room, self.program, self.inputs = room, program, inputs
 
     def peer(self, name):
@@ -33,6 +33,13 @@ class Bench:
     def pst(self, command, name, *words, unit=1e3, **options):
         """Returns how long the program takes for an input."""
         return seconds(self.program, command, "--quiet", getattr(self.inputs, name), *words, statuses=JUDGED, **options) * unit
+
+    @cached_property
+    def new_user(self):
+        """The measures of the program that a new user has, which is built without proofs."""
+        build = os.path.join(self.top, "tools", "build-native")
+        built = subprocess.run([build, "pst"], stdout=subprocess.PIPE, text=True, check=True).stdout.strip()
+        return Bench(self.top, self.room, built, self.inputs)
 
     def lua(self, *words, runs):
         return seconds("lua5.4", *words, runs=runs) * 1e3
@@ -135,6 +142,15 @@ def programs(b):
     yield Group({"pst": step, "rust": b.rust_step}, [row], {"rust": "rustc"})
 
 
+def checks(b):
+    """What run-time checks cost: the program that a new user has, beside the one of the other rows."""
+    turns = lambda bench: bench.pst("judge", "turns", runs=3)
+    trials = lambda bench: bench.campaign("counter", "counter", TRIALS, "--repeats", "1") * 1e3
+    for what, measure in [("1,000,000 turns of two nested clauses", turns), (f"{TRIALS:,} trials of `counter`, 4 workers, repeats 1", trials)]:
+        measures = {"new": lambda measure=measure: measure(b.new_user), "pst": of(measure, b)}
+        yield Group(measures, [Row(f"{what}, built without proofs", "ms", "new", "pst", "the program of the other rows", Aim("at most", 3))])
+
+
 def testers(b):
     """PropEr on the same property, on a quiet machine and a busy one."""
     for trials, around, words in [(TRIALS, None, ""), (BUSY_TRIALS, busy_loops, ", beside four busy loops")]:
@@ -220,4 +236,4 @@ def searches(b):
 
 def groups(b):
     """Returns all groups."""
-    return [group for part in (programs, testers, races, trials, streams, explanations, searches) for group in part(b)]
+    return [group for part in (programs, checks, testers, races, trials, streams, explanations, searches) for group in part(b)]

@@ -6,7 +6,7 @@ A transcript has blocks that begin with a line `$ COMMAND`, which bash runs at t
 The lines after it are those of standard output; those that begin with `! ` are of standard error; a line `? N` is the exit status, 0
 if there is none. A line `...` stands for any lines. Lines that begin with `#` between blocks are comments.
 """
-import os, subprocess, sys, tempfile
+import os, signal, subprocess, sys, tempfile
 
 TOP = os.path.dirname(os.path.dirname(os.path.abspath(__file__)))
 
@@ -46,6 +46,13 @@ def fits(wanted, got):
     return bool(got) and wanted[0] == got[0] and fits(wanted[1:], got[1:])
 
 
+def heed_signals():
+    """Lets a command get each signal that its caller ignores, as `nohup` does, or a shell that starts something in the background."""
+    for number in signal.valid_signals():
+        if signal.getsignal(number) == signal.SIG_IGN:
+            signal.signal(number, signal.SIG_DFL)
+
+
 def main(program, *paths):
     passed = failed = 0
     with tempfile.TemporaryDirectory() as room:
@@ -55,7 +62,8 @@ def main(program, *paths):
         env = {**plain, "PATH": f"{room}:{os.environ['PATH']}", "PST_ROOM": f"{room}/files", "PST_PROGRAM": f"{room}/pst"}
         for path in paths:
             for number, command, out, errors, (status,) in blocks(path):
-                ran = subprocess.run(["bash", "-c", command], cwd=TOP, env=env, stdin=subprocess.DEVNULL, capture_output=True, timeout=120)
+                ran = subprocess.run(["bash", "-c", command], cwd=TOP, env=env, stdin=subprocess.DEVNULL, capture_output=True, timeout=120,
+                                     preexec_fn=heed_signals)
                 got = [text.decode(errors="replace").splitlines() for text in (ran.stdout, ran.stderr)]
                 if fits(trimmed(out), trimmed(got[0])) and fits(trimmed(errors), trimmed(got[1])) and ran.returncode == status:
                     passed += 1

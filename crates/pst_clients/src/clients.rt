@@ -8,6 +8,7 @@ use crate::protocol::{
     ClientAnswer, client_answer_of_line, client_call_line, hint_on_answer_of_wrong_type,
     hint_on_answer_without_value,
 };
+use crate::waits::ClientWaits;
 use pst_system::{CallFault, RealCall, System};
 use pst_value::{Items, Ty, Value};
 use std::alloc::{AllocError, Global};
@@ -19,6 +20,9 @@ use std::time::Duration;
 
 /// The line that makes a client reset the system to its initial state.
 const RESET: &str = "[\"reset\"]\n";
+
+/// What a client does not answer that does not start again.
+const REVIVE: &[u8] = b"[\"revive\"]";
 
 /// Why a line with the mark of a client's end is no answer.
 const END_MARK: &str = "the client printed a line with the byte 0x18, which no answer may have";
@@ -60,27 +64,70 @@ fn has_client_in_state<I: Read + ReadAhead, O: Write>(
     false
 }
 
+/// Waits until all clients are known to have ended, or the launcher ends the wait.
+fn await_client_ends<I: Read + ReadAhead, O: Write>(
+    connections: &mut Vec<Mutex<Connection<I, O>>>,
+    waits: &ClientWaits,
+    worker: u64,
+) {
+    let mut branch = 0u32;
+    for connection in connections {
+        let client = ClientId { worker, branch };
+        let connection = connection.get_mut();
+        waits.begin_wait_for_more_output(client);
+        connection.begin_limited_wait();
+        connection.await_client_end();
+        connection.end_limited_wait();
+        waits.end_wait_for_client(client);
+        branch = branch.saturating_add(1);
+    }
+}
+
+/// Waits until the clients run again that are known to have ended, or the launcher ends the wait.
+fn await_client_restarts<I: Read + ReadAhead, O: Write>(
+    connections: &mut Vec<Mutex<Connection<I, O>>>,
+    waits: &ClientWaits,
+    worker: u64,
+) {
+    let mut branch = 0u32;
+    for connection in connections {
+        let client = ClientId { worker, branch };
+        let connection = connection.get_mut();
+        if connection.state() == ClientState::Ended {
+            waits.begin_wait_for_answer(client, REVIVE);
+            connection.begin_limited_wait();
+            connection.await_restart_of_ended_client();
+            connection.end_limited_wait();
+            waits.end_wait_for_client(client);
+        }
+        branch = branch.saturating_add(1);
+    }
+}
+
 /// Has the clients restarted that are known to have ended. If one process has them all, this waits until all
 /// are known to have ended, and is impossible once a pipe is closed.
 fn restart_ended_clients_if_possible<I: Read + ReadAhead, O: Write>(
     connections: &mut Vec<Mutex<Connection<I, O>>>,
+    waits: &ClientWaits,
+    worker: u64,
     is_shared: bool,
 ) {
-    if !has_client_in_state(connections, ClientState::Ended)
-        || is_shared && has_client_in_state(connections, ClientState::Closed)
-    {
+    if !has_client_in_state(connections, ClientState::Ended) {
         return;
     }
-    for connection in &mut *connections {
-        let connection = connection.get_mut();
-        if is_shared {
-            connection.await_client_end();
+    if is_shared {
+        if has_client_in_state(connections, ClientState::Closed) {
+            return;
         }
-        connection.ask_launcher_to_restart_ended_client();
+        await_client_ends(connections, waits, worker);
+        if has_client_in_state(connections, ClientState::Closed) {
+            return;
+        }
     }
-    for connection in connections {
-        connection.get_mut().await_restart_of_ended_client();
+    for connection in &mut *connections {
+        connection.get_mut().ask_launcher_to_restart_ended_client();
     }
+    await_client_restarts(connections, waits, worker);
 }
 
 impl<R: Wait + Files, I: Read + ReadAhead + Drop, O: Write + Drop> Clients<R, I, O> {
@@ -145,8 +192,13 @@ impl<R: Wait + Files, I: Read + ReadAhead + Drop, O: Write + Drop> Clients<R, I,
     fn note_lost_answer_of_client(&self, branch: u32, line: &[u8], lost: &LostAnswer) {
         let (kind, why) = match lost {
             LostAnswer::NoClient => (NoteKind::NotAsked, "this branch has no client (--branches)"),
-            LostAnswer::Ended(how) if how.is_empty() => (NoteKind::NotAnswered, END_MARK),
+            LostAnswer::Ended(how) if how.trim().is_empty() => (NoteKind::NotAnswered, END_MARK),
             LostAnswer::Ended(how) => (NoteKind::NotAnswered, how.as_str()),
+            LostAnswer::Marked => (NoteKind::NotAnswered, END_MARK),
+            LostAnswer::TooLate => (
+                NoteKind::NotAnswered,
+                "it takes too long (PST_START_SECONDS)",
+            ),
             LostAnswer::Closed => (NoteKind::NotAnswered, "the client has gone"),
             LostAnswer::TooLong => (NoteKind::NotAnswered, "the line is longer than 1 MiB"),
             LostAnswer::NoText => (NoteKind::NoValue, "bytes that are not UTF-8"),
@@ -176,10 +228,33 @@ impl<R: Wait + Files, I: Read + ReadAhead + Drop, O: Write + Drop> Clients<R, I,
         answer
     }
 
+    /// The line with which a branch's client answers a reset, which may only take a limited time.
+    fn ask_for_reset(&self, branch: u32) -> Result<String, LostAnswer> {
+        if let Some(connection) = self.connections.get(branch as usize) {
+            connection.lock(&self.rt).begin_limited_wait();
+        }
+        let answer = self.ask_client_and_track_wait(branch, RESET.as_bytes());
+        if let Some(connection) = self.connections.get(branch as usize) {
+            connection.lock(&self.rt).end_limited_wait();
+        }
+        answer
+    }
+
     /// Returns the line with which a branch's client answers `line`. If the client does not answer, it notes
     /// why.
     fn ask(&self, branch: u32, line: &[u8]) -> Result<String, CallFault> {
-        match self.ask_client_and_track_wait(branch, line) {
+        let answer = self.ask_client_and_track_wait(branch, line);
+        self.answer_or_noted_fault(branch, line, answer)
+    }
+
+    /// Returns the answer of a branch's client to `line`. Notes why the client did not answer.
+    fn answer_or_noted_fault(
+        &self,
+        branch: u32,
+        line: &[u8],
+        answer: Result<String, LostAnswer>,
+    ) -> Result<String, CallFault> {
+        match answer {
             Ok(answer) => Ok(answer),
             Err(LostAnswer::NoMemory) => Err(CallFault::NoMemory),
             Err(lost) => {
@@ -268,13 +343,22 @@ impl<R: Wait + Files, I: Read + ReadAhead + Drop, O: Write + Drop> Clients<R, I,
     ) -> Result<String, CallFault>
         ensures { self.new.results ≡ self.old.results }
     {
-        if let LostAnswer::MoreLines(_) = lost {
+        if matches!(
+            lost,
+            LostAnswer::MoreLines(_) | LostAnswer::Marked | LostAnswer::TooLate
+        ) {
             self.note_lost_answer_of_client(branch, RESET.as_bytes(), lost);
             let _ = self.drop_strays_and_tell_if_answers_doubtful(branch);
             return Err(CallFault::Refused);
         }
-        restart_ended_clients_if_possible(&mut self.connections, self.is_shared);
-        self.ask(branch, RESET.as_bytes())
+        restart_ended_clients_if_possible(
+            &mut self.connections,
+            self.notes.waits(),
+            self.worker,
+            self.is_shared,
+        );
+        let answer = self.ask_for_reset(branch);
+        self.answer_or_noted_fault(branch, RESET.as_bytes(), answer)
     }
 
     /// Asks a branch's client for a reset, once more if it had to be started again.
@@ -282,7 +366,7 @@ impl<R: Wait + Files, I: Read + ReadAhead + Drop, O: Write + Drop> Clients<R, I,
         ensures { self.new.results ≡ self.old.results }
     {
         let line = RESET.as_bytes();
-        let answer = match self.ask_client_and_track_wait(branch, line) {
+        let answer = match self.ask_for_reset(branch) {
             Ok(answer) => answer,
             Err(lost) => self.retry_reset_unless_extra_lines_came(branch, &lost)?,
         };
@@ -370,7 +454,12 @@ impl<
         if self.drop_all_strays_and_tell_if_doubtful() {
             return Err(CallFault::Refused);
         }
-        restart_ended_clients_if_possible(&mut self.connections, self.is_shared);
+        restart_ended_clients_if_possible(
+            &mut self.connections,
+            self.notes.waits(),
+            self.worker,
+            self.is_shared,
+        );
         let mut branch = 0u32;
         for _ in 0..self.connections.len() {
             if let Err(fault) = self.reset_client(branch) {

@@ -13,9 +13,30 @@ pub const MAX_LINE: usize = 1_048_576;
 /// The line that makes the launcher restart a client.
 const REVIVE: &str = "[\"revive\"]\n";
 
-/// The character before what the launcher reports of a client. The client may have begun a line before it
-/// ended. No JSON contains this character.
-const MARK: char = '\x18';
+/// The byte before what the launcher or this program says at the end of a line of a client, which the client may have
+/// begun. No JSON contains this byte.
+const MARK: u8 = 0x18;
+
+/// What the line says that ends what a client has printed so far.
+const LAST: &[u8] = b"pst";
+
+/// The line that this program writes to the pipe of the answers, to read up to it, if the launcher does not.
+const LAST_LINE: &[u8] = b"\x18pst\n";
+
+/// What the line says by which the launcher ends a wait that has taken too long.
+const GIVEN_UP: &[u8] = b"pst gives up";
+
+/// What the line says by which the launcher reports that a client runs again.
+const STARTED: &[u8] = b"started";
+
+/// The word by which the launcher writes the line that ends what a client has printed so far. A wait begins.
+const MARK_WORD: &[u8] = b"m\n";
+
+/// The word that tells the launcher that a wait begins, which may only take a limited time.
+const WAIT_WORD: &[u8] = b"w\n";
+
+/// The word that tells the launcher that a wait is over.
+const DONE_WORD: &[u8] = b"d\n";
 
 /// After how many resets with an unusual answer it is worth while to wait for another line.
 const MOST_WAITS: u32 = 3;
@@ -35,6 +56,10 @@ pub enum LostAnswer {
     NoText,
     /// The client printed more than one line. This is the first, which may answer the line or not.
     MoreLines(String),
+    /// The line has the byte 0x18, but does not say that the client has ended.
+    Marked,
+    /// The launcher has ended the wait, which took too long. The client gets no other line.
+    TooLate,
     /// Out of memory.
     NoMemory,
 }
@@ -59,6 +84,8 @@ pub struct Connection<I: Read, O: Write> {
     state: ClientState,
     /// The name of the pipe of the answers, if they come from one.
     pipe: Option<String>,
+    /// The pipe that tells the launcher of waits, if it has one.
+    waits_pipe: Option<O>,
     /// Whether a line was sent since the last reset was done.
     is_asked: bool,
     /// Whether it printed a line too many since then, so that its answers may be those of other lines.
@@ -67,6 +94,67 @@ pub struct Connection<I: Read, O: Write> {
     reset_answer: Option<String>,
     /// After how many more resets with an unusual answer it is worth while to wait for another line.
     waits: u32,
+}
+
+/// What the end of a line says, after the last byte 0x18 in it.
+#[derive(Clone, Copy, Drop)]
+enum LineEnd<'a> {
+    /// Nothing: there is no such byte, and the client wrote the whole line.
+    Nothing,
+    /// What the client has printed so far ends here.
+    Last,
+    /// The wait has taken too long.
+    GivenUp,
+    /// The client runs again.
+    Started,
+    /// The client has ended, and how. A client that writes this byte seems to end too.
+    Ended(&'a [u8]),
+}
+
+/// A line of a client before the last byte 0x18 in it, and what it says after this byte.
+#[derive(Clone, Copy, Drop)]
+struct MarkedLine<'a> {
+    text: &'a [u8],
+    end: LineEnd<'a>,
+}
+
+impl<'a> MarkedLine<'a> {
+    /// The parts of a line.
+    fn of(line: &'a [u8]) -> MarkedLine<'a> {
+        let mut text = line;
+        for _ in 0..line.len() {
+            let Some((last, before)) = text.split_last() else {
+                break;
+            };
+            text = before;
+            if *last == MARK {
+                let (_, said) = line.split_at(before.len().saturating_add(1).min(line.len()));
+                return MarkedLine {
+                    text,
+                    end: LineEnd::saying(said),
+                };
+            }
+        }
+        MarkedLine {
+            text: line,
+            end: LineEnd::Nothing,
+        }
+    }
+}
+
+impl<'a> LineEnd<'a> {
+    /// What the end of a line says by the bytes after the last byte 0x18.
+    fn saying(said: &'a [u8]) -> LineEnd<'a> {
+        if said == LAST {
+            LineEnd::Last
+        } else if said == GIVEN_UP {
+            LineEnd::GivenUp
+        } else if said == STARTED {
+            LineEnd::Started
+        } else {
+            LineEnd::Ended(said)
+        }
+    }
 }
 
 /// The next byte.
@@ -110,6 +198,7 @@ impl<I: Read + ReadAhead, O: Write> Connection<I, O> {
             calls,
             state: ClientState::Open,
             pipe: None,
+            waits_pipe: None,
             is_asked: false,
             is_astray: false,
             reset_answer: None,
@@ -122,6 +211,20 @@ impl<I: Read + ReadAhead, O: Write> Connection<I, O> {
     pub fn with_answer_pipe_name(mut self, name: String) -> Connection<I, O> {
         self.pipe = Some(name);
         self
+    }
+
+    /// Tells the launcher that a wait begins, which may only take a limited time.
+    pub fn begin_limited_wait(&mut self) {
+        if let Some(pipe) = &mut self.waits_pipe {
+            let _ = pipe.write_all(WAIT_WORD);
+        }
+    }
+
+    /// Tells the launcher that a wait is over.
+    pub fn end_limited_wait(&mut self) {
+        if let Some(pipe) = &mut self.waits_pipe {
+            let _ = pipe.write_all(DONE_WORD);
+        }
     }
 
     /// What is known of the client.
@@ -144,31 +247,59 @@ impl<I: Read + ReadAhead, O: Write> Connection<I, O> {
         }
     }
 
-    /// The next line, unless the launcher says there that the client has ended.
-    fn receive_line_or_client_end(&mut self) -> Result<String, LostAnswer>
-        ensures received { IfOk result (λ text. Consumes (I.remaining self.old.answers)
-            (I.remaining self.new.answers) (string_bytes text ++ 10 ∷ [])) }
+    /// The next line without its end.
+    fn receive_line(&mut self) -> Result<Vec<u8>, LostAnswer>
+        ensures received { IfOk result (λ line. Consumes (I.remaining self.old.answers)
+            (I.remaining self.new.answers) (line.items ++ 10 ∷ [])) }
         ensures same { self.new.calls ≡ self.old.calls }
     {
-        let line = match read_line_of_client(self.alloc, &mut self.answers) {
-            Ok(line) => line,
+        match read_line_of_client(self.alloc, &mut self.answers) {
+            Ok(line) => Ok(line),
             Err(lost) => {
                 if lost != LostAnswer::NoMemory {
                     self.state = ClientState::Closed;
                 }
-                return Err(lost);
+                Err(lost)
             }
-        };
-        let Ok(text) = String::from_utf8(line) else {
-            return Err(LostAnswer::NoText);
-        };
-        let Some((_, how)) = text.as_str().split_once(MARK) else {
-            return Ok(text);
-        };
-        self.state = ClientState::Ended;
-        match String::from_str(self.alloc, how.trim()) {
-            Ok(how) => Err(LostAnswer::Ended(how)),
-            Err(_) => Err(LostAnswer::NoMemory),
+        }
+    }
+
+    /// Keeps in mind what the end of a line says. Returns why such a line is no answer, if it says something.
+    fn note_end_of_line(&mut self, end: LineEnd<'_>) -> Result<(), LostAnswer>
+        ensures answers { self.new.answers ≡ self.old.answers }
+        ensures calls { self.new.calls ≡ self.old.calls }
+    {
+        match end {
+            LineEnd::Nothing => Ok(()),
+            LineEnd::Last | LineEnd::Started => {
+                self.is_astray = true;
+                Err(LostAnswer::Marked)
+            }
+            LineEnd::GivenUp => {
+                self.state = ClientState::Closed;
+                Err(LostAnswer::TooLate)
+            }
+            LineEnd::Ended(how) => {
+                self.state = ClientState::Ended;
+                match String::from_utf8_lossy(self.alloc, how) {
+                    Ok(how) => Err(LostAnswer::Ended(how)),
+                    Err(AllocError) => Err(LostAnswer::NoMemory),
+                }
+            }
+        }
+    }
+
+    /// The next line, if the client wrote all of it and it is UTF-8.
+    fn receive_answer(&mut self) -> Result<String, LostAnswer>
+        ensures received { IfOk result (λ text. Consumes (I.remaining self.old.answers)
+            (I.remaining self.new.answers) (string_bytes text ++ 10 ∷ [])) }
+        ensures same { self.new.calls ≡ self.old.calls }
+    {
+        let line = self.receive_line()?;
+        self.note_end_of_line(MarkedLine::of(line.as_slice()).end)?;
+        match String::from_utf8(line) {
+            Ok(text) => Ok(text),
+            Err(_) => Err(LostAnswer::NoText),
         }
     }
 
@@ -176,7 +307,7 @@ impl<I: Read + ReadAhead, O: Write> Connection<I, O> {
     /// What the launcher says of the client does not count.
     fn has_buffered_client_output(&self) -> bool {
         match self.answers.next_byte_read_ahead() {
-            Some(byte) => self.pipe.is_some() && byte != MARK as u8,
+            Some(byte) => self.pipe.is_some() && byte != MARK,
             None => false,
         }
     }
@@ -195,7 +326,7 @@ impl<I: Read + ReadAhead, O: Write> Connection<I, O> {
         }
         self.is_asked = true;
         self.send_client_line(line)?;
-        let text = self.receive_line_or_client_end()?;
+        let text = self.receive_answer()?;
         if self.has_buffered_client_output() {
             self.is_astray = true;
             return Err(LostAnswer::MoreLines(text));
@@ -203,8 +334,14 @@ impl<I: Read + ReadAhead, O: Write> Connection<I, O> {
         Ok(text)
     }
 
-    /// Writes a line after all that the client has printed. Returns whether this could be done.
-    fn write_end_mark_after_client_output<R: Files>(&self, files: &R) -> bool {
+    /// Has a line written after all that the client has printed. Returns whether this could be done.
+    ///
+    /// The launcher writes it, if it has a pipe for that. Without one this program does, which waits as long as the pipe of
+    /// the answers is full.
+    fn write_end_mark_after_client_output<R: Files>(&mut self, files: &R) -> bool {
+        if let Some(pipe) = &mut self.waits_pipe {
+            return pipe.write_all(MARK_WORD).is_ok();
+        }
         let Some(name) = &self.pipe else {
             return false;
         };
@@ -214,20 +351,27 @@ impl<I: Read + ReadAhead, O: Write> Connection<I, O> {
         }
     }
 
-    /// Reads the lines up to the one that this program wrote.
-    fn read_to_end_mark_line(&mut self) -> Result<PrintedByClient, LostAnswer> {
-        let mut printed = PrintedByClient::new();
+    /// Reads the lines up to the end mark, or up to the line that ends the wait for it. Returns the first that the client
+    /// wrote or began, if there is one.
+    fn read_to_end_mark_line(&mut self) -> Result<Option<String>, LostAnswer> {
+        let mut first = None;
         for _ in 0..u64::MAX {
-            let line = read_line_of_client(self.alloc, &mut self.answers)?;
-            let text = std::str::from_utf8(line.as_slice()).unwrap_or("no UTF-8");
-            if printed.record_first_line_or_mark(self.alloc, text).is_err() {
-                return Err(LostAnswer::NoMemory);
+            let line = self.receive_line()?;
+            let MarkedLine { text, end } = MarkedLine::of(line.as_slice());
+            if first.is_none() && (!text.is_empty() || matches!(end, LineEnd::Nothing)) {
+                first = Some(first_text(self.alloc, text)?);
             }
-            if printed.is_whole {
-                break;
+            match end {
+                LineEnd::Last => break,
+                LineEnd::GivenUp => {
+                    self.state = ClientState::Closed;
+                    break;
+                }
+                LineEnd::Ended(_) => self.state = ClientState::Ended,
+                LineEnd::Nothing | LineEnd::Started => {}
             }
         }
-        Ok(printed)
+        Ok(first)
     }
 
     /// Drops what the client has printed and nothing has read, without waiting for more. Returns the first line
@@ -236,17 +380,16 @@ impl<I: Read + ReadAhead, O: Write> Connection<I, O> {
         if self.state != ClientState::Open || !self.write_end_mark_after_client_output(files) {
             return None;
         }
-        let Ok(printed) = self.read_to_end_mark_line() else {
+        let read = self.read_to_end_mark_line();
+        self.end_limited_wait();
+        let Ok(first) = read else {
             self.state = ClientState::Closed; // the last line may not be read
             return None;
         };
-        if printed.has_ended {
-            self.state = ClientState::Ended;
-        }
-        if printed.first.is_some() && self.is_asked {
+        if first.is_some() && self.is_asked {
             self.is_astray = true;
         }
-        printed.first
+        first
     }
 
     /// Whether the client printed a line too many since it was reset, as far as is known. Then each of its
@@ -277,13 +420,19 @@ impl<I: Read + ReadAhead, O: Write> Connection<I, O> {
         self.is_asked = false;
     }
 
-    /// Waits until the client is known to have ended.
+    /// Waits until the client is known to have ended, or the launcher ends the wait.
     pub fn await_client_end(&mut self) {
         for _ in 0..u64::MAX {
             if self.state != ClientState::Open {
                 return;
             }
-            let _ = self.receive_line_or_client_end();
+            if let Ok(line) = self.receive_line() {
+                match MarkedLine::of(line.as_slice()).end {
+                    LineEnd::Ended(_) => self.state = ClientState::Ended,
+                    LineEnd::GivenUp => self.state = ClientState::Closed,
+                    LineEnd::Nothing | LineEnd::Last | LineEnd::Started => {}
+                }
+            }
         }
     }
 
@@ -294,72 +443,38 @@ impl<I: Read + ReadAhead, O: Write> Connection<I, O> {
         }
     }
 
-    /// Waits until a client that has ended runs again.
+    /// Waits until a client that has ended runs again, or the launcher ends the wait. Drops the lines of the client, and of
+    /// processes that outlive it.
     pub fn await_restart_of_ended_client(&mut self) {
-        if self.state == ClientState::Ended {
-            if let Err(LostAnswer::Ended(_)) = self.receive_line_or_client_end() {
-                self.state = ClientState::Open;
+        for _ in 0..u64::MAX {
+            if self.state != ClientState::Ended {
+                return;
+            }
+            if let Ok(line) = self.receive_line() {
+                match MarkedLine::of(line.as_slice()).end {
+                    LineEnd::Started | LineEnd::Ended(_) => self.state = ClientState::Open,
+                    LineEnd::GivenUp => self.state = ClientState::Closed,
+                    LineEnd::Nothing | LineEnd::Last => {}
+                }
             }
         }
     }
 }
 
-/// The line that this program writes to the pipe of the answers, to read up to it. The launcher writes no such
-/// line.
-const LAST_LINE: &[u8] = b"\x18pst\n";
-
-/// What `LAST_LINE` has after its mark.
-const LAST: &str = "pst";
-
-/// The lines that a client printed, up to the last one.
-#[derive(Drop)]
-pub(crate) struct PrintedByClient {
-    /// The first line, or the beginning of a line.
-    pub(crate) first: Option<String>,
-    /// Whether the launcher says that the client has ended.
-    pub(crate) has_ended: bool,
-    /// Whether the last line is read, which this program wrote.
-    pub(crate) is_whole: bool,
+impl<I: Read, O: Write + Drop> Connection<I, O> {
+    /// The same client, with a pipe that tells its launcher of waits. The launcher then marks the end of what the client has
+    /// printed, and ends waits that take too long.
+    pub fn with_waits_pipe(mut self, pipe: O) -> Connection<I, O> {
+        self.waits_pipe = Some(pipe);
+        self
+    }
 }
 
-impl PrintedByClient {
-    /// No lines.
-    pub(crate) fn new() -> PrintedByClient {
-        PrintedByClient {
-            first: None,
-            has_ended: false,
-            is_whole: false,
-        }
-    }
-
-    /// Keeps the text of a line if it is the first one. In a line with a mark, the text is what comes before the mark,
-    /// if that is not empty, and the mark sets `is_whole` if this program wrote it, or else `has_ended`.
-    pub(crate) fn record_first_line_or_mark(
-        &mut self,
-        alloc: Global,
-        line: &str,
-    ) -> Result<(), AllocError> {
-        let Some((text, how)) = line.split_once(MARK) else {
-            return self.keep_text_if_first(alloc, line);
-        };
-        if how == LAST {
-            self.is_whole = true;
-        } else {
-            self.has_ended = true;
-        }
-        if text.is_empty() {
-            Ok(())
-        } else {
-            self.keep_text_if_first(alloc, text)
-        }
-    }
-
-    /// Keeps a line, or the beginning of one, that the client printed, if it is the first.
-    fn keep_text_if_first(&mut self, alloc: Global, text: &str) -> Result<(), AllocError> {
-        if self.first.is_none() {
-            self.first = Some(String::from_str(alloc, text)?);
-        }
-        Ok(())
+/// The text of a line, with U+FFFD in the place of what is no UTF-8.
+fn first_text(alloc: Global, line: &[u8]) -> Result<String, LostAnswer> {
+    match String::from_utf8_lossy(alloc, line) {
+        Ok(text) => Ok(text),
+        Err(AllocError) => Err(LostAnswer::NoMemory),
     }
 }
 

@@ -35,7 +35,8 @@ impl<'a> ClientFolder<'a> {
     }
 }
 
-/// The client whose pipes are the files `WORKER-BRANCH.calls` and `WORKER-BRANCH.answers` in a folder, counted from 1.
+/// The client whose pipes are the files `WORKER-BRANCH.calls` and `WORKER-BRANCH.answers` in a folder, counted from 1. If
+/// the launcher has a pipe `WORKER-BRANCH.waits`, that tells it of waits.
 ///
 /// A test may have plain files in place of pipes, to which nothing is written.
 fn open_client<R: Files + AllocGlobal>(
@@ -50,9 +51,23 @@ fn open_client<R: Files + AllocGlobal>(
     let calls = OpenOptions::new().write(true).open(rt, calls.as_str())?;
     let answers = std::fs::open(rt, name.as_str())?;
     let client = Connection::new(alloc, BufReader::new(alloc, answers)?, calls);
-    match std::fs::metadata(rt, name.as_str()) {
-        Ok(kind) if !kind.is_file() => Ok(client.with_answer_pipe_name(name)),
-        _ => Ok(client),
+    if !is_pipe(rt, name.as_str()) {
+        return Ok(client);
+    }
+    let client = client.with_answer_pipe_name(name);
+    let waits = format!(in alloc; "{folder}/{worker}-{branch}.waits")?;
+    if !is_pipe(rt, waits.as_str()) {
+        return Ok(client);
+    }
+    let waits = OpenOptions::new().write(true).open(rt, waits.as_str())?;
+    Ok(client.with_waits_pipe(waits))
+}
+
+/// Whether a name is that of a pipe, or of something else that is no plain file.
+fn is_pipe<R: Files>(rt: &R, name: &str) -> bool {
+    match std::fs::metadata(rt, name) {
+        Ok(kind) => !kind.is_file(),
+        Err(_) => false,
     }
 }
 

@@ -15,9 +15,14 @@ const MAX_TURNS: u32 = 1_000_000;
 /// A call takes one more step for each group of this number of values in the state.
 const VALUES_IN_A_STEP: u64 = 16;
 
+/// A call of `command` takes this number of steps more for each value in its list: each call of the list is built, and
+/// then copied for a choice.
+const STEPS_OF_A_LISTED_VALUE: u64 = 4;
+
 /// Callbacks with a limit on their steps. A call of a callback takes one step, one more for each of its turns, and one
-/// more for every 16 values in the last state. If no steps are left, a call returns `AllocError`, which ends what calls
-/// it, and `has_failed_for_lack_of_steps` returns true from then on.
+/// more for every 16 values in the last state. A call of `command` takes four more for each value in its list of calls.
+/// If no steps are left, a call returns `AllocError`, which ends what calls it, and `has_failed_for_lack_of_steps`
+/// returns true from then on.
 #[derive(Drop)]
 pub struct StepLimitedCallbacks<'a, C> {
     callbacks: &'a C,
@@ -46,8 +51,8 @@ fn count_steps_of_ended_callback(ended: &Result<(Value, u32), Fault>) -> u64 {
 #[cycle(size)]
 fn value_size_for_step_limit(value: &Value) -> u64 {
     let inner = match value {
-        Value::Tuple(parts) => total_value_size_for_step_limit(parts.as_slice()),
-        Value::List(parts) => total_value_size_for_step_limit(parts.as_slice()),
+        Value::Tuple(parts) | Value::List(parts) | Value::Call(_, parts) =>
+            total_value_size_for_step_limit(parts.as_slice()),
         Value::Map(_, values) => total_value_size_for_step_limit(values.get().as_slice()),
         Value::Ref(_, value) => value_size_for_step_limit(value.get()),
         Value::Text(text) => (text.as_bytes().len() / 8) as u64,
@@ -142,6 +147,14 @@ impl<'a, C: Callbacks> StepLimitedCallbacks<'a, C> {
         self.charge_steps_saturating(further.saturating_mul(self.most_of_a_call.get()));
     }
 
+    /// Takes the steps for the size of the value of a call that ended, if it does not fault: a list of calls.
+    fn charge_listed_calls(&self, ended: &Result<(Value, u32), Fault>) {
+        if let Ok((calls, _)) = ended {
+            let values = value_size_for_step_limit(calls);
+            self.charge_steps_saturating(values.saturating_mul(STEPS_OF_A_LISTED_VALUE));
+        }
+    }
+
     /// The result of a search on these callbacks, or `None` if the search ended because no steps were left.
     pub fn none_if_out_of_steps<T>(
         &self,
@@ -174,6 +187,7 @@ impl<'a, C: Callbacks> Callbacks for StepLimitedCallbacks<'a, C> {
         self.note_and_fail_if_out_of_steps()?;
         let answer = self.callbacks.command(alloc, state)?;
         self.charge_call_and_note_longest(&answer);
+        self.charge_listed_calls(&answer);
         Ok(answer)
     }
 

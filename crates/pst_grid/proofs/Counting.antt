@@ -11,7 +11,7 @@ use Rattle.pst_grid.specs.declared.steps.StepOutcome.{StepOutcome}
 use Rattle.pst_grid.specs.declared.steps.StepOutcome.TheVariants.{Next}
 use Rattle.pst_grid.proofs.Answering.{IsAt-none}
 use Rattle.pst_grid.proofs.Remembering.{Each-map}
-use Rattle.pst_grid.proofs.Searching.{IsAt-more}
+use Rattle.pst_grid.proofs.Placing.{IsAt-more}
 
 module _ {K : Type 0} where
   -- it is one of the list

@@ -1,5 +1,5 @@
 -- How what a search has covered grows.
-use Rattle.std.proofs.Common.{◌≡◌, ℕ, suc, ◌+◌, ◌<◌, ◌≤◌, ◌⊎◌, inl, inr, List, [], ◌∷◌, ◌++◌, length, get_or, nat_lt, Bool, true, false, MatchBool, Option, Some, None, MatchOption, refl, sym, ap, subst, ◌∙◌, arith, append_assoc, length-append}
+use Rattle.std.proofs.Common.{◌≡◌, ℕ, suc, ◌+◌, ◌<◌, ◌≤◌, ◌⊎◌, inl, inr, List, [], ◌∷◌, ◌++◌, length, get_or, nat_lt, Bool, true, false, true≢false, MatchBool, Option, Some, None, MatchOption, refl, sym, ap, subst, ◌∙◌, arith, append_assoc, length-append}
 use Rattle.std.proofs.lemmas.Bool.{cases_lt}
 use Rattle.std.proofs.lemmas.Bool.Decides.{nat_tests}
 use Rattle.std.specs.Option.{is_none}
@@ -7,7 +7,7 @@ use Rattle.pst_grid.specs.declared.steps.StopReason.{StopReason}
 use Rattle.pst_grid.specs.declared.steps.StopReason.TheVariants.{False, Fault}
 use Rattle.pst_grid.specs.declared.steps.StepOutcome.{StepOutcome}
 use Rattle.pst_grid.specs.declared.steps.StepOutcome.TheVariants.{Next, Stop}
-use Rattle.pst_grid.specs.Completions.{Completes, Begins}
+use Rattle.pst_grid.specs.Orders.{Extends, Begins}
 use Rattle.pst_grid.specs.Covered.{FaultsOn, IsLeastFault, IsFurther, Covered, IsHeld, IsExplored}
 use Rattle.pst_grid.specs.Kept.{reach, Keeps, KeepsFurthest, KeepsFault, is_stopped, IsFresh, IsSought, is_kept}
 use Rattle.pst_grid.specs.Merges.{run, IsUpTo, after, later, one_more}
@@ -19,7 +19,7 @@ use Rattle.pst_grid.specs.declared.search.FaultedInterleaving.{FaultedInterleavi
 use Rattle.pst_grid.specs.declared.search.Goal.{Goal}
 use Rattle.pst_grid.specs.declared.search.Goal.TheVariants.{ToEnd, Stopped}
 use Rattle.pst_grid.specs.declared.search.SearchProgress.{SearchProgress}
-use Rattle.pst_grid.proofs.Completing.{BeginsBelow, Completes-head, Completes-tail, Completes-cons, Completes-letter}
+use Rattle.pst_grid.proofs.Completing.{BeginsBelow, Completes-head, Completes-letter, Extends-tail, Extends-cons}
 
 pub later-AllTrue : {F : Type 0} (e : Ending F) → later e ≡ AllTrue → e ≡ AllTrue
 later-AllTrue AllTrue h = refl
@@ -283,7 +283,7 @@ module _ {S F : Type 0} (turn : S → ℕ → ℕ → StepOutcome S F) (rest : S
     least = λ v k s. sorted v k;
   }
 
-module _ {S F : Type 0} (turn : S → ℕ → ℕ → StepOutcome S F) (rest : S → Ending F) (lengths done : List ℕ) (state : S) (b : ℕ) (fits : b < length done) where
+module _ {S F : Type 0} (turn : S → ℕ → ℕ → StepOutcome S F) (rest : S → Ending F) (order : List ℕ → ℕ → Bool) (lengths done : List ℕ) (state : S) (b : ℕ) (fits : b < length done) where
   pub run-Next : (next : S) → turn state b (get_or done b 0) ≡ Next next → (w : List ℕ) → run turn rest done state (b ∷ w) ≡ later (run turn rest (one_more done b) next w)
   run-Next next e w = ap (λ t. after t (λ s. run turn rest (one_more done b) s w)) e
 
@@ -291,22 +291,22 @@ module _ {S F : Type 0} (turn : S → ℕ → ℕ → StepOutcome S F) (rest : S
   run-Stop why e w = ap (λ t. after t (λ s. run turn rest (one_more done b) s w)) e
 
   -- the words behind a stop, and the run of each
-  pub run-begins : (why : StopReason F) → turn state b (get_or done b 0) ≡ Stop why → (w : List ℕ) → Begins lengths done b w → run turn rest done state w ≡ StopsAt 0 why
+  pub run-begins : (why : StopReason F) → turn state b (get_or done b 0) ≡ Stop why → (w : List ℕ) → Begins order lengths done b w → run turn rest done state w ≡ StopsAt 0 why
   run-begins why e [] k = absurd k.0
   run-begins why e (c ∷ w) k = ap (λ a. run turn rest done state (a ∷ w)) k.0 ∙ run-Stop why e w
 
   -- the words behind a true event
-  pub Covered-Next : (goal : Goal) (before : List ℕ) (next : S) (x y : FirstFailures F) → turn state b (get_or done b 0) ≡ Next next
-      → Covered turn rest goal (one_more done b) next (before ++ b ∷ []) (Completes lengths (one_more done b)) x y
-      → Covered turn rest goal done state before (Begins lengths done b) x y
-  Covered-Next goal before next x y e a = record {
+  pub Covered-Next : (goal : Goal) (before : List ℕ) (next : S) (x y : FirstFailures F) → order done b ≡ true → turn state b (get_or done b 0) ≡ Next next
+      → Covered turn rest goal (one_more done b) next (before ++ b ∷ []) (Extends order lengths (one_more done b)) x y
+      → Covered turn rest goal done state before (Begins order lengths done b) x y
+  Covered-Next goal before next x y may e a = record {
     none_sought = none_sought;
     kept = a.kept;
     none_faults = none_faults;
     first = λ d f g. let l = a.first d f g in record {
       letters = b ∷ l.letters;
       steps = suc l.steps;
-      member = (refl, Completes-cons lengths done b fits l.letters l.member);
+      member = (refl, Extends-cons order lengths done b fits may l.letters l.member);
       word = l.word ∙ append_assoc before (b ∷ []) l.letters;
       faults = run-Next next e l.letters ∙ ap later l.faults;
       place = omega (arith, l.place, length-append before (b ∷ []));
@@ -317,29 +317,29 @@ module _ {S F : Type 0} (turn : S → ℕ → ℕ → StepOutcome S F) (rest : S
     reached = elim a.reached [ inl e ↦ inl e | inr p ↦ inr (further p) ];
   }
     where
-      at_letter : (c : ℕ) (w : List ℕ) → c ≡ b → Completes lengths done (c ∷ w) → Completes lengths (one_more done b) w
-      at_letter c w d k = Completes-tail lengths done b fits w (subst (λ a. Completes lengths done (a ∷ w)) d k)
+      at_letter : (c : ℕ) (w : List ℕ) → c ≡ b → Extends order lengths done (c ∷ w) → Extends order lengths (one_more done b) w
+      at_letter c w d k = Extends-tail order lengths done b fits w (subst (λ a. Extends order lengths done (a ∷ w)) d k)
 
       run-letter : (c : ℕ) (w : List ℕ) → c ≡ b → run turn rest done state (c ∷ w) ≡ later (run turn rest (one_more done b) next w)
       run-letter c w d = ap (λ a. run turn rest done state (a ∷ w)) d ∙ run-Next next e w
 
-      none_sought : (w : List ℕ) → Begins lengths done b w → IsSought goal (run turn rest done state w) → ⊥
+      none_sought : (w : List ℕ) → Begins order lengths done b w → IsSought goal (run turn rest done state w) → ⊥
       none_sought [] k f = k.0
       none_sought (c ∷ w) k f = a.none_sought w (at_letter c w k.0 k.1) (sought-later goal _ (subst (IsSought goal) (run-letter c w k.0) f))
 
       faults_on : (c : ℕ) (w : List ℕ) → c ≡ b → FaultsOn turn rest done state (c ∷ w) → FaultsOn turn rest (one_more done b) next w
       faults_on c w d f = let k = later-StopsAt _ f.0 (Fault f.1) (sym (run-letter c w d) ∙ f.2) in (k.steps, f.1, k.ends)
 
-      none_faults : y.fault ≡ None → (w : List ℕ) → Begins lengths done b w → FaultsOn turn rest done state w → ⊥
+      none_faults : y.fault ≡ None → (w : List ℕ) → Begins order lengths done b w → FaultsOn turn rest done state w → ⊥
       none_faults n [] k f = k.0
       none_faults n (c ∷ w) k f = a.none_faults n w (at_letter c w k.0 k.1) (faults_on c w k.0 f)
 
-      least : (letters : List ℕ) → ((v : List ℕ) → Completes lengths (one_more done b) v → FaultsOn turn rest (one_more done b) next v → IsUpTo letters v)
-          → (v : List ℕ) → Begins lengths done b v → FaultsOn turn rest done state v → IsUpTo (b ∷ letters) v
+      least : (letters : List ℕ) → ((v : List ℕ) → Extends order lengths (one_more done b) v → FaultsOn turn rest (one_more done b) next v → IsUpTo letters v)
+          → (v : List ℕ) → Begins order lengths done b v → FaultsOn turn rest done state v → IsUpTo (b ∷ letters) v
       least letters h [] k f = absurd k.0
       least letters h (c ∷ v) k f = inr (sym k.0, h v (at_letter c v k.0 k.1) (faults_on c v k.0 f))
 
-      bounds : (w : List ℕ) (n : ℕ) → Begins lengths done b w → run turn rest done state w ≡ StopsAt n False → length before + n < reach y.furthest
+      bounds : (w : List ℕ) (n : ℕ) → Begins order lengths done b w → run turn rest done state w ≡ StopsAt n False → length before + n < reach y.furthest
       bounds [] n k f = absurd k.0
       bounds (c ∷ w) n k f = let s = later-StopsAt _ n False (sym (run-letter c w k.0) ∙ f) in
           omega (arith, a.bounds w s.steps (at_letter c w k.0 k.1) s.ends, s.more, length-append before (b ∷ []))
@@ -350,12 +350,12 @@ module _ {S F : Type 0} (turn : S → ℕ → ℕ → StepOutcome S F) (rest : S
           let z : s.steps ≡ n = omega (arith, s.more) in
           s.ends ∙ ap (λ k. StopsAt k False) z
 
-      least_false : (letters : List ℕ) (n : ℕ) → ((v : List ℕ) → Completes lengths (one_more done b) v → run turn rest (one_more done b) next v ≡ StopsAt n False → IsUpTo letters v)
-          → (v : List ℕ) → Begins lengths done b v → run turn rest done state v ≡ StopsAt (suc n) False → IsUpTo (b ∷ letters) v
+      least_false : (letters : List ℕ) (n : ℕ) → ((v : List ℕ) → Extends order lengths (one_more done b) v → run turn rest (one_more done b) next v ≡ StopsAt n False → IsUpTo letters v)
+          → (v : List ℕ) → Begins order lengths done b v → run turn rest done state v ≡ StopsAt (suc n) False → IsUpTo (b ∷ letters) v
       least_false letters n h [] k f = absurd k.0
       least_false letters n h (c ∷ v) k f = inr (sym k.0, h v (at_letter c v k.0 k.1) (false_on c v n k.0 f))
 
-      further : IsFurther turn rest (one_more done b) next (before ++ b ∷ []) (Completes lengths (one_more done b)) x.furthest y.furthest → IsFurther turn rest done state before (Begins lengths done b) x.furthest y.furthest
+      further : IsFurther turn rest (one_more done b) next (before ++ b ∷ []) (Extends order lengths (one_more done b)) x.furthest y.furthest → IsFurther turn rest done state before (Begins order lengths done b) x.furthest y.furthest
       further p = let l = p.least in record {
         merge = p.merge;
         kept = p.kept;
@@ -363,7 +363,7 @@ module _ {S F : Type 0} (turn : S → ℕ → ℕ → StepOutcome S F) (rest : S
         least = record {
           letters = b ∷ l.letters;
           steps = suc l.steps;
-          member = (refl, Completes-cons lengths done b fits l.letters l.member);
+          member = (refl, Extends-cons order lengths done b fits may l.letters l.member);
           word = l.word ∙ append_assoc before (b ∷ []) l.letters;
           stops = run-Next next e l.letters ∙ ap later l.stops;
           place = omega (arith, l.place, length-append before (b ∷ []));
@@ -371,51 +371,59 @@ module _ {S F : Type 0} (turn : S → ℕ → ℕ → StepOutcome S F) (rest : S
         };
       }
 
-module _ {S F : Type 0} (turn : S → ℕ → ℕ → StepOutcome S F) (rest : S → Ending F) (goal : Goal) (lengths done : List ℕ) (state : S) where
+module _ {S F : Type 0} (turn : S → ℕ → ℕ → StepOutcome S F) (rest : S → Ending F) (goal : Goal) (order : List ℕ → ℕ → Bool) (lengths done : List ℕ) (state : S) where
   -- a branch that has no command left
-  pub Covered-full : (b : ℕ) (before : List ℕ) (x : FirstFailures F) → get_or lengths b 0 ≤ get_or done b 0 → Covered turn rest goal done state before (Begins lengths done b) x x
-  Covered-full b before x h = Covered-none turn rest goal done state before (Begins lengths done b) x none
+  pub Covered-full : (b : ℕ) (before : List ℕ) (x : FirstFailures F) → get_or lengths b 0 ≤ get_or done b 0 → Covered turn rest goal done state before (Begins order lengths done b) x x
+  Covered-full b before x h = Covered-none turn rest goal done state before (Begins order lengths done b) x none
     where
-      none : (w : List ℕ) → Begins lengths done b w → ⊥
+      none : (w : List ℕ) → Begins order lengths done b w → ⊥
       none [] k = k.0
-      none (c ∷ w) k = let p = Completes-head lengths done c w k.1 in let e : c ≡ b = k.0 in
+      none (c ∷ w) k = let p = Completes-head lengths done c w k.1.0 in let e : c ≡ b = k.0 in
           let q : get_or done b 0 < get_or lengths b 0 = subst (λ a. get_or done a 0 < get_or lengths a 0) e p in omega arith
 
-  pub Covered-start : (before : List ℕ) (x : FirstFailures F) → Covered turn rest goal done state before (BeginsBelow lengths done 0) x x
-  Covered-start before x = Covered-none turn rest goal done state before (BeginsBelow lengths done 0) x none
+  -- a branch whose next command may not come next
+  pub Covered-closed : (b : ℕ) (before : List ℕ) (x : FirstFailures F) → order done b ≡ false → Covered turn rest goal done state before (Begins order lengths done b) x x
+  Covered-closed b before x closed = Covered-none turn rest goal done state before (Begins order lengths done b) x none
     where
-      none : (w : List ℕ) → BeginsBelow lengths done 0 w → ⊥
+      none : (w : List ℕ) → Begins order lengths done b w → ⊥
+      none [] k = k.0
+      none (c ∷ w) k = let e : c ≡ b = k.0 in let o = k.1.1.0 in absurd (true≢false (sym (subst (λ a. order done a ≡ true) e o) ∙ closed))
+
+  pub Covered-start : (before : List ℕ) (x : FirstFailures F) → Covered turn rest goal done state before (BeginsBelow order lengths done 0) x x
+  Covered-start before x = Covered-none turn rest goal done state before (BeginsBelow order lengths done 0) x none
+    where
+      none : (w : List ℕ) → BeginsBelow order lengths done 0 w → ⊥
       none [] k = k.0
       none (c ∷ w) k = let e : c < 0 = k.0 in omega arith
 
   -- one branch more
   pub Covered-more : (b : ℕ) (before : List ℕ) (x y z : FirstFailures F)
-      → Covered turn rest goal done state before (BeginsBelow lengths done b) x y → Covered turn rest goal done state before (Begins lengths done b) y z
-      → Covered turn rest goal done state before (BeginsBelow lengths done (b + 1)) x z
-  Covered-more b before x y z p q = Covered-join turn rest goal done state before (BeginsBelow lengths done b) (Begins lengths done b) (BeginsBelow lengths done (b + 1)) x y z split left right sorted p q
+      → Covered turn rest goal done state before (BeginsBelow order lengths done b) x y → Covered turn rest goal done state before (Begins order lengths done b) y z
+      → Covered turn rest goal done state before (BeginsBelow order lengths done (b + 1)) x z
+  Covered-more b before x y z p q = Covered-join turn rest goal done state before (BeginsBelow order lengths done b) (Begins order lengths done b) (BeginsBelow order lengths done (b + 1)) x y z split left right sorted p q
     where
-      split : (w : List ℕ) → BeginsBelow lengths done (b + 1) w → BeginsBelow lengths done b w ⊎ Begins lengths done b w
+      split : (w : List ℕ) → BeginsBelow order lengths done (b + 1) w → BeginsBelow order lengths done b w ⊎ Begins order lengths done b w
       split [] k = absurd k.0
       split (c ∷ w) k = elim (cases_lt c b) [ inl l ↦ inl (l, k.1) | inr l ↦ inr (let s : c < b + 1 = k.0 in (omega arith, k.1)) ]
 
-      left : (w : List ℕ) → BeginsBelow lengths done b w → BeginsBelow lengths done (b + 1) w
+      left : (w : List ℕ) → BeginsBelow order lengths done b w → BeginsBelow order lengths done (b + 1) w
       left [] k = absurd k.0
       left (c ∷ w) k = let s : c < b = k.0 in (omega arith, k.1)
 
-      right : (w : List ℕ) → Begins lengths done b w → BeginsBelow lengths done (b + 1) w
+      right : (w : List ℕ) → Begins order lengths done b w → BeginsBelow order lengths done (b + 1) w
       right [] k = absurd k.0
       right (c ∷ w) k = let s : c ≡ b = k.0 in (omega arith, k.1)
 
-      sorted : (v w : List ℕ) → BeginsBelow lengths done b v → Begins lengths done b w → IsUpTo v w
+      sorted : (v w : List ℕ) → BeginsBelow order lengths done b v → Begins order lengths done b w → IsUpTo v w
       sorted [] w p q = tt
       sorted (a ∷ v) [] p q = q.0
       sorted (a ∷ v) (c ∷ w) p q = let s : a < b = p.0 in let t : c ≡ b = q.0 in inl (omega arith)
 
   -- all branches, where some command is left
   pub Covered-all : (b : ℕ) (before : List ℕ) (x y : FirstFailures F) (open_branch : ℕ) → get_or done open_branch 0 < get_or lengths open_branch 0 → length lengths ≤ b
-      → Covered turn rest goal done state before (BeginsBelow lengths done b) x y → Covered turn rest goal done state before (Completes lengths done) x y
-  Covered-all b before x y c left past p = Covered-same turn rest goal done state before (BeginsBelow lengths done b) (Completes lengths done) x y (λ w k. k.1) all p
+      → Covered turn rest goal done state before (BeginsBelow order lengths done b) x y → Covered turn rest goal done state before (Extends order lengths done) x y
+  Covered-all b before x y c left past p = Covered-same turn rest goal done state before (BeginsBelow order lengths done b) (Extends order lengths done) x y (λ w k. k.1) all p
     where
-      all : (w : List ℕ) → Completes lengths done w → BeginsBelow lengths done b w
-      all [] k = let e = k c in absurd (omega arith)
-      all (a ∷ w) k = let l = Completes-letter lengths done a w k in (omega arith, k)
+      all : (w : List ℕ) → Extends order lengths done w → BeginsBelow order lengths done b w
+      all [] k = let e = k.0 c in absurd (omega arith)
+      all (a ∷ w) k = let l = Completes-letter lengths done a w k.0 in (omega arith, k)

@@ -6,7 +6,7 @@ use Rattle.std.specs.List.{list_any}
 use Rattle.pst_grid.specs.declared.steps.Ending.{Ending}
 use Rattle.pst_grid.specs.declared.steps.StepOutcome.{StepOutcome}
 use Rattle.pst_grid.specs.Bounds.{Each}
-use Rattle.pst_grid.specs.Completions.{Completes}
+use Rattle.pst_grid.specs.Orders.{Extends}
 use Rattle.pst_grid.specs.Covered.{Covered}
 use Rattle.pst_grid.specs.Kept.{reach}
 use Rattle.pst_grid.specs.Remembered.{EachFrom, IsAccounted, AreAccounted, IsRemembered}
@@ -97,13 +97,13 @@ module _ {S : Type 0} (eq : S → S → Bool) where
   pub position-equal : ((a : S) → eq a a ≡ true) → (k l : Position S) → k.done ≡ l.done → k.state ≡ l.state → bytes_eq k.done l.done && eq k.state l.state ≡ true
   position-equal law k l d e = ap (λ b. b && eq k.state l.state) ((bytes_eq-Decides k.done l.done).1 d) ∙ subst (λ s. eq k.state s ≡ true) e (law k.state)
 
-module _ {S F : Type 0} (turn : S → ℕ → ℕ → StepOutcome S F) (rest : S → Ending F) (goal : Goal) (lengths : List ℕ) where
+module _ {S F : Type 0} (turn : S → ℕ → ℕ → StepOutcome S F) (rest : S → Ending F) (goal : Goal) (order : List ℕ → ℕ → Bool) (lengths : List ℕ) where
   -- what was covered is accounted for
-  pub accounted : (done before : List ℕ) (state : S) (old new : FirstFailures F) → sum done ≡ length before → Covered turn rest goal done state before (Completes lengths done) old new → IsAccounted turn rest goal lengths new done state
+  pub accounted : (done before : List ℕ) (state : S) (old new : FirstFailures F) → sum done ≡ length before → Covered turn rest goal done state before (Extends order lengths done) old new → IsAccounted turn rest goal order lengths new done state
   accounted done before state old new e c = record { none_sought = c.none_sought; none_faults = c.none_faults; bounds = λ w n k r. omega (arith, c.bounds w n k r, e) }
 
   -- what is accounted for is covered with no further search
-  pub covered : (done before : List ℕ) (state : S) (best : FirstFailures F) → sum done ≡ length before → IsAccounted turn rest goal lengths best done state → Covered turn rest goal done state before (Completes lengths done) best best
+  pub covered : (done before : List ℕ) (state : S) (best : FirstFailures F) → sum done ≡ length before → IsAccounted turn rest goal order lengths best done state → Covered turn rest goal done state before (Extends order lengths done) best best
   covered done before state best e a = record {
     none_sought = a.none_sought;
     kept = λ x f. f;
@@ -116,7 +116,7 @@ module _ {S F : Type 0} (turn : S → ℕ → ℕ → StepOutcome S F) (rest : S
 
   -- it stays so while the search goes on
   pub accounted-on : (old new : FirstFailures F) → ((x : FaultedInterleaving F) → old.fault ≡ Some x → new.fault ≡ Some x) → reach old.furthest ≤ reach new.furthest
-      → (done : List ℕ) (state : S) → IsAccounted turn rest goal lengths old done state → IsAccounted turn rest goal lengths new done state
+      → (done : List ℕ) (state : S) → IsAccounted turn rest goal order lengths old done state → IsAccounted turn rest goal order lengths new done state
   accounted-on old new kept grows done state a = record {
     none_sought = a.none_sought;
     none_faults = λ n. a.none_faults (none_before n);
@@ -131,15 +131,15 @@ module _ {S F : Type 0} (turn : S → ℕ → ℕ → StepOutcome S F) (rest : S
           by (Some f) k = let j : Some f ≡ None = sym (kept f k) ∙ e in cc
 
   pub all-accounted-on : (depth : ℕ) (done before : List ℕ) (state : S) (W : List ℕ → Type 0) (old new : FirstFailures F) (keys : List (Position S)) → Covered turn rest goal done state before W old new
-      → AreAccounted turn rest goal lengths depth old keys → AreAccounted turn rest goal lengths depth new keys
+      → AreAccounted turn rest goal order lengths depth old keys → AreAccounted turn rest goal order lengths depth new keys
   all-accounted-on depth done before state W old new keys c h =
-      Each-map (λ k. depth ≤ sum k.done → IsAccounted turn rest goal lengths old k.done k.state) (λ k. depth ≤ sum k.done → IsAccounted turn rest goal lengths new k.done k.state)
+      Each-map (λ k. depth ≤ sum k.done → IsAccounted turn rest goal order lengths old k.done k.state) (λ k. depth ≤ sum k.done → IsAccounted turn rest goal order lengths new k.done k.state)
       (λ k a deep. accounted-on old new c.kept c.grows k.done k.state (a deep)) keys h
 
   -- a position that is met again
   pub met-again : (best : FirstFailures F) (keys : List (Position S)) (done before : List ℕ) (state : S) → IsRemembered done state keys → sum done ≡ length before
-      → AreAccounted turn rest goal lengths (sum done) best keys → Covered turn rest goal done state before (Completes lengths done) best best
+      → AreAccounted turn rest goal order lengths (sum done) best keys → Covered turn rest goal done state before (Extends order lengths done) best best
   met-again best keys done before state there e all =
       covered done before state best e
-      (Each-remembered (λ k. sum done ≤ sum k.done → IsAccounted turn rest goal lengths best k.done k.state) (IsAccounted turn rest goal lengths best done state) done state keys
-      (λ k d s a. subst (λ x. IsAccounted turn rest goal lengths best x state) d (subst (λ n. IsAccounted turn rest goal lengths best k.done n) s (a (omega (arith, ap sum d))))) there all)
+      (Each-remembered (λ k. sum done ≤ sum k.done → IsAccounted turn rest goal order lengths best k.done k.state) (IsAccounted turn rest goal order lengths best done state) done state keys
+      (λ k d s a. subst (λ x. IsAccounted turn rest goal order lengths best x state) d (subst (λ n. IsAccounted turn rest goal order lengths best k.done n) s (a (omega (arith, ap sum d))))) there all)

@@ -16,35 +16,53 @@ module _ {S F : Type 0} (turn : S → ℕ → ℕ → StepOutcome S F) (rest : S
   abbrev pub ending : List ℕ → Ending F
   ending word = run turn rest (none_done lengths) start word
 
-  -- a merge whose run ends so
+  module _ (W : List ℕ → Type 0) where
+    -- a word of W whose run ends so
+    abbrev pub EndsAmong : Ending F → List ℕ → Type 0
+    EndsAmong e word = W word × (ending word ≡ e)
+
+    -- a word of W whose run faults
+    abbrev pub FaultsAmong : List ℕ → Type 0
+    FaultsAmong word = W word × ((n : ℕ) × (f : F) × (ending word ≡ StopsAt n (Fault f)))
+
+    -- a word of W whose run is not all true
+    abbrev pub FailsToBeTrueAmong : List ℕ → Type 0
+    FailsToBeTrueAmong word = W word × (ending word ≢ AllTrue)
+
+    -- found: the least word of W that is all true
+    -- faulted: no word of W is all true, and this is the least that faults, with its place and its fault
+    -- nothing: no word of W is all true and none faults, this is the least with so many true events before a false
+    -- one, and none has more
+    abbrev pub IsAnswerAmong : SomeAnswer F → Type 0
+    IsAnswerAmong (Found word) = IsLeast (EndsAmong AllTrue) word.items
+    IsAnswerAmong (Faulted word at fault) =
+        ((v : List ℕ) → EndsAmong AllTrue v → ⊥)
+        × (IsLeast FaultsAmong word.items × (ending word.items ≡ StopsAt at (Fault fault)))
+    IsAnswerAmong (Nothing far word) =
+        ((v : List ℕ) → EndsAmong AllTrue v → ⊥)
+        × ((v : List ℕ) → FaultsAmong v → ⊥)
+        × IsLeast (EndsAmong (StopsAt far False)) word.items
+        × ((v : List ℕ) (n : ℕ) → EndsAmong (StopsAt n False) v → n ≤ far)
+
+    -- all: each word of W is all true
+    -- not: the least word of W that is not all true, with the place where it stops, and why
+    abbrev pub IsEveryAnswerAmong : EveryAnswer F → Type 0
+    IsEveryAnswerAmong All = (v : List ℕ) → W v → ending v ≡ AllTrue
+    IsEveryAnswerAmong (Not word at why) =
+        IsLeast FailsToBeTrueAmong word.items × (ending word.items ≡ StopsAt at why)
+
+  -- and so it is among all merges
   abbrev pub Ends : Ending F → List ℕ → Type 0
-  Ends e word = IsMerge lengths word × (ending word ≡ e)
+  Ends = EndsAmong (IsMerge lengths)
 
-  -- a merge whose run faults
   abbrev pub Faults : List ℕ → Type 0
-  Faults word = IsMerge lengths word × ((n : ℕ) × (f : F) × (ending word ≡ StopsAt n (Fault f)))
+  Faults = FaultsAmong (IsMerge lengths)
 
-  -- a merge whose run is not all true
   abbrev pub FailsToBeTrue : List ℕ → Type 0
-  FailsToBeTrue word = IsMerge lengths word × (ending word ≢ AllTrue)
+  FailsToBeTrue = FailsToBeTrueAmong (IsMerge lengths)
 
-  -- found: the least merge that is all true
-  -- faulted: no merge is all true, and this is the least that faults, with its place and its fault
-  -- nothing: no merge is all true and none faults, this is the least with so many true events before a false
-  -- one, and none has more
   abbrev pub IsAnswer : SomeAnswer F → Type 0
-  IsAnswer (Found word) = IsLeast (Ends AllTrue) word.items
-  IsAnswer (Faulted word at fault) =
-      ((v : List ℕ) → Ends AllTrue v → ⊥)
-      × (IsLeast Faults word.items × (ending word.items ≡ StopsAt at (Fault fault)))
-  IsAnswer (Nothing far word) =
-      ((v : List ℕ) → Ends AllTrue v → ⊥)
-      × ((v : List ℕ) → Faults v → ⊥)
-      × IsLeast (Ends (StopsAt far False)) word.items
-      × ((v : List ℕ) (n : ℕ) → Ends (StopsAt n False) v → n ≤ far)
+  IsAnswer = IsAnswerAmong (IsMerge lengths)
 
-  -- all: each merge is all true
-  -- not: the least merge that is not all true, with the place where it stops, and why
   abbrev pub IsEveryAnswer : EveryAnswer F → Type 0
-  IsEveryAnswer All = (v : List ℕ) → IsMerge lengths v → ending v ≡ AllTrue
-  IsEveryAnswer (Not word at why) = IsLeast FailsToBeTrue word.items × (ending word.items ≡ StopsAt at why)
+  IsEveryAnswer = IsEveryAnswerAmong (IsMerge lengths)

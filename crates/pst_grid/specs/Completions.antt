@@ -11,15 +11,6 @@ pub record IsAt (lengths done : List ℕ) : Type 0 where
 abbrev pub Completes : List ℕ → List ℕ → List ℕ → Type 0
 Completes lengths done word = (b : ℕ) → slice_index done b + times b word ≡ slice_index lengths b
 
--- a word that begins with the letter b
-abbrev pub StartsWith : ℕ → List ℕ → Type 0
-StartsWith b [] = ⊥
-StartsWith b (a ∷ w) = a ≡ b
-
--- those that begin with the letter b
-abbrev pub Begins : List ℕ → List ℕ → ℕ → List ℕ → Type 0
-Begins lengths done b w = StartsWith b w × Completes lengths done w
-
 -- the letters that are left, in order: branch by branch, from branch b on
 abbrev pub fill_from : ℕ → List ℕ → List ℕ → List ℕ
 fill_from b [] done = []

@@ -7,7 +7,7 @@ use Rattle.pst_grid.specs.declared.search.FalseInterleaving.{FalseInterleaving}
 use Rattle.pst_grid.specs.declared.search.FaultedInterleaving.{FaultedInterleaving}
 use Rattle.pst_grid.specs.declared.search.Goal.{Goal}
 use Rattle.pst_grid.specs.declared.search.SearchProgress.{SearchProgress}
-use Rattle.pst_grid.specs.Completions.{Completes}
+use Rattle.pst_grid.specs.Orders.{Extends}
 use Rattle.pst_grid.specs.Kept.{reach, nothing_kept, Keeps, IsSought}
 use Rattle.pst_grid.specs.Merges.{run, none_done, IsUpTo}
 use Rattle.pst_grid.specs.declared.steps.Ending.{Ending}
@@ -91,9 +91,9 @@ module _ {S F : Type 0} (turn : S → ℕ → ℕ → StepOutcome S F) (rest : S
       (HasCovered W old new)
 
   -- so it is with all words, from the start of branches of these lengths
-  abbrev pub IsExploredWhole : List ℕ → SearchProgress F → Bool → Type 0
-  IsExploredWhole lengths new found =
+  abbrev pub IsExploredWhole : (List ℕ → ℕ → Bool) → List ℕ → SearchProgress F → Bool → Type 0
+  IsExploredWhole order lengths new found =
       let none = none_done lengths in
       MatchBool found
-      (IsLeastSought turn rest goal none s [] (Completes lengths none) new)
-      (Covered turn rest goal none s [] (Completes lengths none) nothing_kept new.best)
+      (IsLeastSought turn rest goal none s [] (Extends order lengths none) new)
+      (Covered turn rest goal none s [] (Extends order lengths none) nothing_kept new.best)

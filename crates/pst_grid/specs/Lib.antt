@@ -1,5 +1,7 @@
 -- what the public contracts cite
 pub mod Merges
+pub mod Orders
+pub mod RealTime
 pub mod StepOutcomes
 pub mod Answers
 pub mod Bounds

@@ -9,7 +9,7 @@ use Rattle.pst_grid.specs.declared.search.Goal.{Goal}
 use Rattle.pst_grid.specs.declared.search.SearchProgress.{SearchProgress}
 use Rattle.pst_grid.specs.declared.position.Position.{Position}
 use Rattle.pst_grid.specs.Bounds.{Each, Leads}
-use Rattle.pst_grid.specs.Completions.{Completes}
+use Rattle.pst_grid.specs.Orders.{Extends}
 use Rattle.pst_grid.specs.Covered.{FaultsOn, IsLeastSought, HasCovered}
 use Rattle.pst_grid.specs.Kept.{reach, IsSought}
 use Rattle.pst_grid.specs.Merges.{run}
@@ -24,14 +24,14 @@ IsRemembered done s [] = ⊥
 IsRemembered done s (k ∷ ks) = ((k.done ≡ done) × (k.state ≡ s)) ⊎ IsRemembered done s ks
 
 module _ {S F : Type 0} (turn : S → ℕ → ℕ → StepOutcome S F) (rest : S → Ending F)
-    (goal : Goal) (lengths : List ℕ) where
+    (goal : Goal) (order : List ℕ → ℕ → Bool) (lengths : List ℕ) where
   -- all that the words behind this place and state could give is in what the search has seen
   pub record IsAccounted (best : FirstFailures F) (done : List ℕ) (s : S) : Type 0 where
-    pub none_sought : (w : List ℕ) → Completes lengths done w → IsSought goal (run turn rest done s w) → ⊥
+    pub none_sought : (w : List ℕ) → Extends order lengths done w → IsSought goal (run turn rest done s w) → ⊥
     pub none_faults :
-        best.fault ≡ None → (w : List ℕ) → Completes lengths done w → FaultsOn turn rest done s w → ⊥
+        best.fault ≡ None → (w : List ℕ) → Extends order lengths done w → FaultsOn turn rest done s w → ⊥
     pub bounds : (w : List ℕ) (n : ℕ) →
-        Completes lengths done w → run turn rest done s w ≡ StopsAt n False
+        Extends order lengths done w → run turn rest done s w ≡ StopsAt n False
         → sum done + n < reach best.furthest
 
   -- so it is with each position at which so many commands are done
@@ -77,9 +77,9 @@ module _ {S F : Type 0} (turn : S → ℕ → ℕ → StepOutcome S F) (lengths 
         now ≤ before + extra + length lengths * length added + most_rest * length (ends_of lengths added)
 
 module _ {S F : Type 0} (turn : S → ℕ → ℕ → StepOutcome S F) (rest : S → Ending F)
-    (goal : Goal) (lengths : List ℕ) (most_rest : ℕ) where
+    (goal : Goal) (order : List ℕ → ℕ → Bool) (lengths : List ℕ) (most_rest : ℕ) where
   -- what a search of the words of W has found or covered, and what it has remembered on the way
   pub record IsSearched (extra depth : ℕ) (s : S) (W : List ℕ → Type 0) (old new : SearchProgress F)
       (before now : List (Position S)) (found : Bool) : Type 0 where
     pub grown : IsGrown turn lengths most_rest extra depth old.done.items s before now old.steps new.steps
-    pub ends : IsFoundOrCovered turn rest goal lengths depth s W old new now found
+    pub ends : IsFoundOrCovered turn rest goal order lengths depth s W old new now found

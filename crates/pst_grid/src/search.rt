@@ -1,14 +1,15 @@
 //! What all searches share: the position of a search and what it has seen, and the rest of a run after all branches
 //! have ended.
-ghost use Rattle.std.specs.Prelude.{◌≡◌, ◌+◌, ◌-◌, ◌*◌, ◌++◌, ◌∷◌, [], ◌<◌, ◌≤◌, ℕ, length, take, sum, slice_index, slice_set, IfOk, OnOk, MatchBool, MatchOption, ◌^◌};
-ghost use Rattle.pst_grid.specs.Completions.{IsAt, fill_from, Completes};
+ghost use Rattle.std.specs.Prelude.{List, ◌≡◌, ◌+◌, ◌-◌, ◌*◌, ◌++◌, ◌∷◌, [], ◌<◌, ◌≤◌, ℕ, length, take, sum, slice_index, slice_set, IfOk, OnOk, MatchBool, MatchOption, ◌^◌};
+ghost use Rattle.pst_grid.specs.Completions.{IsAt};
 ghost use Rattle.pst_grid.specs.Kept as spec;
 ghost use Rattle.pst_grid.specs.Kept.{HasEnd, Keeps, nothing_kept, IsFresh};
+ghost use Rattle.pst_grid.specs.Orders.{NeverBlocks, IsFirstOpen, IsNoneOpen, IsFilled, Extends};
 ghost use Rattle.pst_grid.specs.Merges.{one_more, none_done};
 ghost use Rattle.pst_grid.specs.declared.steps.StopReason.TheVariants as stop;
 ghost use Rattle.pst_grid.specs.Covered.{IsExplored};
 
-use crate::{Ending, EveryAnswer, SomeAnswer, Steps, StopReason};
+use crate::{Ending, EveryAnswer, Order, SomeAnswer, Steps, StopReason};
 use std::alloc::{AllocError, Global};
 
 /// What a search is for. The first interleaving of this kind ends it.
@@ -129,33 +130,39 @@ impl<F: Drop> SearchProgress<F> {
         self.done[branch] -= 1;
     }
 
-    /// Notes that the first interleaving that begins with the word stops after `at` true events. A fault is kept if it is
-    /// the first, and a false event if it is further than each so far.
-    pub(crate) fn note_stop_if_first_or_furthest(
+    /// Notes that the first interleaving in order that begins with the word stops after `at` true events. A fault is kept
+    /// if it is the first, and a false event if it is further than each so far.
+    pub(crate) fn note_stop_if_first_or_furthest<O: Order>(
         &mut self,
         alloc: Global,
+        order: &O,
         lengths: &[usize],
         at: usize,
         why: StopReason<F>,
     ) -> Result<(), AllocError>
-        requires branches { length self.old.done.items ≡ length lengths.now }
+        requires place { IsAt lengths.now self.old.done.items }
+        requires progress { NeverBlocks (O.order order.now) lengths.now }
         ensures done { OnOk result (self.new.done.items ≡ self.old.done.items) }
         ensures word { OnOk result (self.new.word.items ≡ self.old.word.items) }
         ensures steps { self.new.steps ≡ self.old.steps }
         ensures best { OnOk result
-            (Keeps at (self.old.word.items ++ fill_from 0 lengths.now self.old.done.items) why
-            self.old.best self.new.best) }
+            ((letters : List ℕ) × IsFilled (O.order order.now) lengths.now self.old.done.items letters
+            × Keeps at (self.old.word.items ++ letters) why self.old.best self.new.best) }
     {
         match why {
             StopReason::False => {
                 if is_further(at, &self.best.furthest) {
-                    let word = self.first_interleaving_from_current_position(alloc, lengths)?;
+                    let word = self.first_interleaving_from_current_position(
+                        alloc, order, lengths,
+                    )?;
                     self.best.furthest = Some(FalseInterleaving { word, at });
                 }
             }
             StopReason::Fault(fault) => {
                 if self.best.fault.is_none() {
-                    let word = self.first_interleaving_from_current_position(alloc, lengths)?;
+                    let word = self.first_interleaving_from_current_position(
+                        alloc, order, lengths,
+                    )?;
                     self.best.fault = Some(FaultedInterleaving { word, at, fault });
                 }
             }
@@ -164,21 +171,25 @@ impl<F: Drop> SearchProgress<F> {
     }
 
     /// Notes that the next command of `branch` stops the run after the word.
-    pub(crate) fn note_stop_by_next_command(
+    pub(crate) fn note_stop_by_next_command<O: Order>(
         &mut self,
         alloc: Global,
+        order: &O,
         lengths: &[usize],
         branch: usize,
         why: StopReason<F>,
     ) -> Result<(), AllocError>
         requires place { IsAt lengths.now self.old.done.items }
         requires left { slice_index self.old.done.items branch < slice_index lengths.now branch }
+        requires progress { NeverBlocks (O.order order.now) lengths.now }
         ensures done { OnOk result (self.new.done.items ≡ self.old.done.items) }
         ensures word { OnOk result (self.new.word.items ≡ self.old.word.items) }
         ensures steps { OnOk result (self.new.steps ≡ self.old.steps) }
-        ensures best { OnOk result (Keeps (length self.old.word.items)
-            ((self.old.word.items ++ branch ∷ []) ++ fill_from 0 lengths.now (one_more self.old.done.items branch))
-            why self.old.best self.new.best) }
+        ensures best { OnOk result
+            ((letters : List ℕ)
+            × IsFilled (O.order order.now) lengths.now (one_more self.old.done.items branch) letters
+            × Keeps (length self.old.word.items) ((self.old.word.items ++ branch ∷ []) ++ letters) why
+            self.old.best self.new.best) }
     {
         let at = self.word.len();
         let kept = self.keeps(at, &why);
@@ -186,7 +197,7 @@ impl<F: Drop> SearchProgress<F> {
             return Ok(());
         }
         self.advance_in_branch(lengths, branch)?;
-        self.note_stop_if_first_or_furthest(alloc, lengths, at, why)?;
+        self.note_stop_if_first_or_furthest(alloc, order, lengths, at, why)?;
         self.go_back_in_branch(branch);
         Ok(())
     }
@@ -201,17 +212,25 @@ impl<F: Drop> SearchProgress<F> {
         }
     }
 
-    /// The first interleaving that begins with the word.
-    fn first_interleaving_from_current_position(
+    /// The first interleaving in order that begins with the word.
+    fn first_interleaving_from_current_position<O: Order>(
         &self,
         alloc: Global,
+        order: &O,
         lengths: &[usize],
     ) -> Result<Vec<usize>, AllocError>
-        requires { length self.now.done.items ≡ length lengths.now }
-        ensures { IfOk result
-            (λ v. v.items ≡ self.now.word.items ++ fill_from 0 lengths.now self.now.done.items) }
+        requires place { IsAt lengths.now self.now.done.items }
+        requires progress { NeverBlocks (O.order order.now) lengths.now }
+        ensures { IfOk result (λ v. (letters : List ℕ)
+            × IsFilled (O.order order.now) lengths.now self.now.done.items letters
+            × (v.items ≡ self.now.word.items ++ letters)) }
     {
-        complete_interleaving_branch_by_branch(lengths, &self.done, self.word.to_vec(alloc)?)
+        complete_interleaving_in_order(
+            order,
+            lengths,
+            self.done.to_vec(alloc)?,
+            self.word.to_vec(alloc)?,
+        )
     }
 
     /// The answer of the finished search. If `found`, the word is an interleaving that is true to its end.
@@ -296,29 +315,48 @@ pub(crate) fn are_all_branches_done(lengths: &[usize], done: &[usize]) -> bool
     true
 }
 
-/// The word, followed by the commands that are left, branch by branch.
-fn complete_interleaving_branch_by_branch(
+/// The first open branch that has a command left.
+fn first_open_branch<O: Order>(order: &O, lengths: &[usize], done: &[usize]) -> Option<usize>
+    requires { length done.now ≡ length lengths.now }
+    ensures { MatchOption result (IsNoneOpen (O.order order.now) lengths.now done.now)
+        (IsFirstOpen (O.order order.now) lengths.now done.now) }
+{
+    for branch in 0..lengths.len() {
+        if done[branch] < lengths[branch] && order.is_open(done, branch) {
+            return Some(branch);
+        }
+    }
+    None
+}
+
+/// The word, followed by the commands that are left, each time the next one of the first open branch.
+fn complete_interleaving_in_order<O: Order>(
+    order: &O,
     lengths: &[usize],
-    done: &[usize],
+    done: Vec<usize>,
     word: Vec<usize>,
 ) -> Result<Vec<usize>, AllocError>
-    requires { length done.now ≡ length lengths.now }
-    ensures { IfOk result (λ v. v.items ≡ word.items ++ fill_from 0 lengths.now done.now) }
+    requires place { IsAt lengths.now done.items }
+    requires progress { NeverBlocks (O.order order.now) lengths.now }
+    ensures { IfOk result (λ v. (letters : List ℕ)
+        × IsFilled (O.order order.now) lengths.now done.items letters
+        × (v.items ≡ word.items ++ letters)) }
 {
     let mut whole = word;
-    for branch in 0..lengths.len() {
-        for _ in done[branch]..lengths[branch] {
-            whole.push(branch)?;
-        }
+    let mut done = done;
+    while let Some(branch) = first_open_branch(order, lengths, &done) {
+        whole.push(branch)?;
+        done[branch] += 1;
     }
     Ok(whole)
 }
 
 /// Runs the rest after the word, which is a whole interleaving, and returns whether the search is for it. If it is not
 /// true to its end, the search notes where it stops. Each clause is a fact on one of the things that the search keeps.
-pub(crate) fn run_rest_and_check_goal<S: Steps>(
+pub(crate) fn run_rest_and_check_goal<S: Steps, O: Order>(
     alloc: Global,
     steps: &S,
+    order: &O,
     lengths: &[usize],
     goal: Goal,
     search: &mut SearchProgress<S::Fault>,
@@ -329,9 +367,10 @@ pub(crate) fn run_rest_and_check_goal<S: Steps>(
     requires state { S.is_state steps.now state.now }
     requires room { length search.old.word.items + S.most_rest steps.now < 2 ^ 64 }
     requires fresh { IsFresh goal search.old.best }
+    requires progress { NeverBlocks (O.order order.now) lengths.now }
     ensures steps { OnOk result (search.new.steps ≤ search.old.steps + S.most_rest steps.now) }
     ensures explored { IfOk result (IsExplored (S.outcome steps.now) (S.rest steps.now) goal state.now
-        (Completes lengths.now search.old.done.items) search.old search.new) }
+        (Extends (O.order order.now) lengths.now search.old.done.items) search.old search.new) }
 {
     let (ending, made) = steps.run_rest(alloc, state)?;
     search.steps = search.steps.saturating_add(made);
@@ -339,7 +378,7 @@ pub(crate) fn run_rest_and_check_goal<S: Steps>(
         Ending::AllTrue => Ok(!goal.wants_stopped_interleaving()),
         Ending::StopsAt(at, why) => {
             let at = search.word.len() + at;
-            search.note_stop_if_first_or_furthest(alloc, lengths, at, why)?;
+            search.note_stop_if_first_or_furthest(alloc, order, lengths, at, why)?;
             Ok(goal.wants_stopped_interleaving())
         }
     }

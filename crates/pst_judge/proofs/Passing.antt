@@ -10,7 +10,7 @@ use Rattle.pst_eval.specs.Callbacks.{max_turns, at_names, pre_in, pre_of, next_i
 use Rattle.pst_eval.specs.Meaning.{Mean, Part, called, frame, mean, mean_at, part_at}
 use Rattle.pst_grid.proofs.Answering.{IsAt-none, merge}
 use Rattle.pst_grid.proofs.Completing.{Completes-head, Completes-tail}
-use Rattle.pst_grid.proofs.Searching.{IsAt-branch, IsAt-more, sum-more, sum-le, sum-left}
+use Rattle.pst_grid.proofs.Placing.{IsAt-branch, IsAt-more, sum-more, sum-le, sum-left}
 use Rattle.pst_grid.specs.Answers.{IsEveryAnswer}
 use Rattle.pst_grid.specs.Completions.{Completes, IsAt}
 use Rattle.pst_grid.specs.Merges.{later, after, run, none_done, one_more}

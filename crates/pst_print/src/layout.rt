@@ -2,7 +2,7 @@
 
 use crate::measure::{Measure, measure_tree_at_each_token};
 use crate::style::{Rule, Style, headless_node_layout_style, node_layout_style};
-use crate::tokens::{Kind, Token, read_layout_tokens, trimmed_token_bytes};
+use crate::tokens::{Kind, Token, head_word_at_token, read_layout_tokens, trimmed_token_bytes};
 use pst_sexpr::{MAX_BYTES, SexprFault, Tree, read};
 use std::alloc::{AllocError, Global};
 
@@ -116,7 +116,7 @@ impl<'a> Layout<'a> {
         }
     }
 
-    /// Whether a part of the node that begins with token `number` begins a line in the file.
+    /// Whether a part of the node that begins with token `number` begins a line in the file, other than the leading parts.
     fn node_is_split_in_input(&self, number: usize) -> bool {
         match self.measures.get(number) {
             Some(measure) => measure.has_lines,
@@ -126,10 +126,7 @@ impl<'a> Layout<'a> {
 
     /// The head word of the node that begins with token `number`.
     fn head_word_at_token(&self, number: usize) -> Option<&'a [u8]> {
-        match self.tokens.get(number.saturating_add(1)) {
-            Some(token) if token.kind == Kind::Atom => Some(trimmed_token_bytes(self.input, token)),
-            _ => None,
-        }
+        head_word_at_token(self.input, self.tokens, number)
     }
 
     /// Whether the node that begins with token `number` is the state or the initial state of a model.

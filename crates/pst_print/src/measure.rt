@@ -1,6 +1,7 @@
 //! How wide the parts of a file are on one line.
 
-use crate::tokens::{Kind, Token, trimmed_token_bytes};
+use crate::style::leading_parts_of_head;
+use crate::tokens::{Kind, Token, head_word_at_token, trimmed_token_bytes};
 use std::alloc::{AllocError, Global};
 
 /// The size of the tree that begins with a token.
@@ -10,7 +11,7 @@ pub struct Measure {
     pub width: usize,
     /// Whether a comment is in its tree.
     pub has_comment: bool,
-    /// Whether a part of its tree begins a line in the file.
+    /// Whether a part of its node begins a line in the file, other than the leading parts.
     pub has_lines: bool,
 }
 
@@ -71,28 +72,60 @@ fn last_token_of_each_tree(alloc: Global, tokens: &[Token]) -> Result<Vec<usize>
     Ok(found)
 }
 
-/// For each token whether one of the parts of its node begins a line.
-fn flag_nodes_with_line_breaks(alloc: Global, tokens: &[Token]) -> Result<Vec<bool>, AllocError> {
+/// A node that is open.
+#[derive(Clone, Copy, Drop)]
+struct OpenNode {
+    /// The number of its bracket among the tokens.
+    number: usize,
+    /// How many of its leading parts are still to come.
+    leading: usize,
+}
+
+/// The node that begins with token `number`.
+fn open_node_at_token(input: &[u8], tokens: &[Token], number: usize) -> OpenNode {
+    let leading = match head_word_at_token(input, tokens, number) {
+        Some(head) => leading_parts_of_head(head),
+        None => 1,
+    };
+    OpenNode { number, leading }
+}
+
+/// For each token whether one of the parts of its node begins a line, other than the leading parts.
+fn flag_nodes_with_line_breaks(
+    alloc: Global,
+    input: &[u8],
+    tokens: &[Token],
+) -> Result<Vec<bool>, AllocError> {
     let mut found = Vec::new(alloc);
-    let mut open: Vec<usize> = Vec::new(alloc);
+    let mut open: Vec<OpenNode> = Vec::new(alloc);
     for (number, token) in tokens.iter().enumerate() {
         found.push(false)?;
         if token.kind == Kind::Close {
             let _ = open.pop();
-        } else if token.lines > 0 {
-            mark_innermost_node_broken(&mut found, open.as_slice());
+        } else {
+            note_part_of_innermost_node(&mut found, open.last_mut(), token);
         }
         if token.kind == Kind::Open {
-            open.push(number)?;
+            open.push(open_node_at_token(input, tokens, number))?;
         }
     }
     Ok(found)
 }
 
-/// Notes for the innermost open node that one of its parts begins a line.
-fn mark_innermost_node_broken(found: &mut [bool], open: &[usize]) {
-    if let Some(node) = open.last() {
-        if let Some(has_lines) = found.get_mut(*node) {
+/// Notes for the innermost open node, if there is one, that a part begins with `token`. A comment counts as a part here,
+/// since a node with a comment is never on one line.
+fn note_part_of_innermost_node(
+    found: &mut [bool],
+    innermost: Option<&mut OpenNode>,
+    token: &Token,
+) {
+    let Some(node) = innermost else {
+        return;
+    };
+    if node.leading > 0 {
+        node.leading -= 1;
+    } else if token.lines > 0 {
+        if let Some(has_lines) = found.get_mut(node.number) {
             *has_lines = true;
         }
     }
@@ -140,7 +173,7 @@ pub fn measure_tree_at_each_token(
     let reaches = one_line_columns_of_tokens(alloc, input, tokens)?;
     let ends = last_token_of_each_tree(alloc, tokens)?;
     let closers = closing_brackets_after_each_token(alloc, tokens)?;
-    let broken = flag_nodes_with_line_breaks(alloc, tokens)?;
+    let broken = flag_nodes_with_line_breaks(alloc, input, tokens)?;
     let mut found = Vec::new(alloc);
     for ((first, end), has_lines) in reaches.iter().zip(ends.as_slice()).zip(broken.as_slice()) {
         if let (Some(last), Some(closers)) = (reaches.get(*end), closers.get(*end)) {

@@ -78,6 +78,15 @@ pub fn node_layout_style(head: &[u8], column: usize) -> Style {
     Style { rule, indent }
 }
 
+/// How many parts of a node with the head word `head` are leading: they stay on the line of its bracket wherever they
+/// begin in the file. These are the head word, and the name of a model.
+pub fn leading_parts_of_head(head: &[u8]) -> usize {
+    match line_rule_and_indent_of_head(head) {
+        (Rule::Model, _) => 2,
+        _ => 1,
+    }
+}
+
 impl Rule {
     /// Whether a part that begins a line in the file still begins one.
     pub fn keeps_input_line_breaks(self) -> bool {

@@ -130,3 +130,15 @@ pub fn trimmed_token_bytes<'a>(input: &'a [u8], token: &Token) -> &'a [u8] {
         _ => bytes,
     }
 }
+
+/// The head word of the node that begins with token `number`.
+pub fn head_word_at_token<'a>(
+    input: &'a [u8],
+    tokens: &[Token],
+    number: usize,
+) -> Option<&'a [u8]> {
+    match tokens.get(number.saturating_add(1)) {
+        Some(token) if token.kind == Kind::Atom => Some(trimmed_token_bytes(input, token)),
+        _ => None,
+    }
+}

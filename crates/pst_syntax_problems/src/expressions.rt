@@ -5,13 +5,13 @@ use crate::forms::{
     nearest_expression_head_hint,
 };
 use crate::problem::{
-    FoundProblem, missing_name_problem, missing_operation_name_problem, path_to_part, problem_at,
-    problem_at_part, problem_with_hint_if_foreign_word, problem_with_note,
+    FoundProblem, Problem, missing_name_problem, missing_operation_name_problem, path_to_part,
+    problem_at, problem_at_part, problem_with_hint_if_foreign_word, problem_with_note,
     problem_with_note_at_part, with_hint_if_opens_single_quote, with_note,
 };
 use crate::tree::head_word_of_node;
-use crate::writing::counted_noun;
-use pst_sexpr::{Form, is_integer, word_of};
+use crate::writing::{counted_noun, shortened_tree_text};
+use pst_sexpr::{Form, is_integer, node_of, word_of};
 use pst_syntax::{FaultKind, MAX_PARTS};
 use pst_value::{LIMIT, Text};
 use std::alloc::Global;
@@ -176,7 +176,10 @@ fn value_as_head_problem(alloc: Global, path: &[usize], word: &Text, parts: usiz
 pub fn problem_of_bad_tuple_place(alloc: Global, path: &[usize], place: &Form) -> FoundProblem {
     let what = "the place of a tuple's item is an integer, from 1";
     match word_of(place) {
-        Some(word) if is_integer(word) => problem_at(alloc, path, what),
+        Some(word) if is_integer(word) => {
+            let hint = "hint: items are numbered from 1: `(at t 1)` is the first one of `t`";
+            problem_with_note(alloc, path, what, hint)
+        }
         _ => {
             let hint = "hint: for a list write `(nth LIST PLACE)`, counted from 0";
             problem_with_note(alloc, path, what, hint)
@@ -222,9 +225,10 @@ fn wrong_expression_part_problem(
             MAP_ENTRIES,
         ),
         ("for", _) => not_a_clause_list_problem(alloc, path_to_part(path, alloc, 1)?.as_slice()),
-        ("call", _) => missing_operation_name_problem(
+        ("call", [called, ..]) => missing_operation_name_problem(
             alloc,
             path_to_part(path, alloc, 1)?.as_slice(),
+            called,
         ),
         ("fold", [Form::Word(_), ..]) => missing_name_problem(
             alloc,
@@ -342,6 +346,27 @@ fn problem_of_expression_over_limit(alloc: Global, path: &[usize], form: &Form) 
     }
 }
 
+/// The problem `found` of a node without a head, with a hint if it may be meant as a tuple or as a list: its first tree is an
+/// integer or a text, and others follow.
+fn with_hint_if_tuple_or_list_without_head(
+    alloc: Global,
+    form: &Form,
+    found: Option<Problem>,
+) -> FoundProblem {
+    let item = match node_of(form) {
+        Some([Form::Word(word), _, ..]) if is_integer(word) => "int",
+        Some([Form::Text(_), _, ..]) => "text",
+        _ => return Ok(found),
+    };
+    let written = shortened_tree_text(alloc, form)?;
+    let parts = match written.as_str().strip_prefix("(") {
+        Some(parts) if parts.ends_with(")") => parts,
+        _ => "a b ..)",
+    };
+    let hint = format_args!("hint: a tuple is `(tuple {parts}`, a list `(list {item} {parts}`");
+    with_note(alloc, found, hint)
+}
+
 /// The problem of an expression with the fault `kind`.
 pub fn refused_expression_problem(
     alloc: Global,
@@ -352,7 +377,10 @@ pub fn refused_expression_problem(
 ) -> FoundProblem {
     match kind {
         FaultKind::OverLimit => problem_of_expression_over_limit(alloc, path, form),
-        _ => not_an_expression_problem(alloc, has_maps, path, form),
+        _ => {
+            let found = not_an_expression_problem(alloc, has_maps, path, form)?;
+            with_hint_if_tuple_or_list_without_head(alloc, form, found)
+        }
     }
 }
 

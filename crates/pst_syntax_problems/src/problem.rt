@@ -3,6 +3,7 @@ ghost use Rattle.std.specs.Prelude.{◌≡◌, IfOk};
 ghost use Rattle.pst_syntax_problems.specs.Placed.{below};
 
 use crate::forms::hint_for_foreign_word;
+use pst_sexpr::{Form, word_of};
 use pst_syntax::{MAX_NAME, is_name};
 use pst_value::Text;
 use std::alloc::{AllocError, Global};
@@ -215,7 +216,11 @@ pub fn missing_name_problem(alloc: Global, path: &[usize]) -> FoundProblem {
     problem_at(alloc, path, "expected a name here")
 }
 
-/// The problem of a tree that is no name where an operation is named.
-pub fn missing_operation_name_problem(alloc: Global, path: &[usize]) -> FoundProblem {
-    problem_at(alloc, path, "expected the name of an operation here")
+/// The problem of `form`, which is no name where an operation is named.
+pub fn missing_operation_name_problem(alloc: Global, path: &[usize], form: &Form) -> FoundProblem {
+    let found = problem_at(alloc, path, "expected the name of an operation here")?;
+    match word_of(form) {
+        Some(word) if is_capitalized_name(word.as_str()) => with_note(alloc, found, CAPITAL),
+        _ => Ok(found),
+    }
 }

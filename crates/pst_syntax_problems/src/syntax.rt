@@ -172,7 +172,7 @@ fn model_fault_problem(
         Role::DeepExpression => too_deep_expression_problem(alloc, path),
         Role::Clause => not_a_comprehension_clause_problem(alloc, path),
         Role::Place => problem_of_bad_tuple_place(alloc, path, form),
-        Role::Operation => missing_operation_name_problem(alloc, path),
+        Role::Operation => missing_operation_name_problem(alloc, path, form),
         Role::ModelName | Role::ItemName | Role::ParameterName | Role::Name => {
             refused_declared_name_problem(alloc, path, form, role, kind)
         }

@@ -2,7 +2,7 @@
 ghost use Rattle.std.specs.Prelude.{◌<◌, ◌+◌, ◌^◌, sum};
 
 use pst_grid::{
-    Ending, EveryAnswer, SomeAnswer, StepOutcome, Steps, StopReason, every,
+    AnyOrder, Ending, EveryAnswer, SomeAnswer, StepOutcome, Steps, StopReason, every,
     find_first_true_interleaving_plainly, some,
 };
 use std::alloc::{AllocError, Global};
@@ -251,7 +251,9 @@ fn answer_of_some(alloc: Global, lamp: &Lamp, lengths: &[usize]) -> Result<Strin
 fn answer_of_plain(alloc: Global, lamp: &Lamp, lengths: &[usize]) -> Result<String, AllocError>
     requires { sum lengths.now + 1 < 2 ^ 32 }
 {
-    let (answer, _) = find_first_true_interleaving_plainly(alloc, lamp, lengths, &false)?;
+    let (answer, _) = find_first_true_interleaving_plainly(
+        alloc, lamp, &AnyOrder, lengths, &false,
+    )?;
     format!(in alloc; "{answer:?}")
 }
 

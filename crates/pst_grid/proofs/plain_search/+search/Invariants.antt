@@ -12,6 +12,6 @@ decreases-explore_branch_plainly g l = 2 * (sum l.lengths.now - sum l.search.now
 
 abbrev pub invariant-explore_plainly-loop-branch : goal.invariant-explore_plainly-loop-branch
 invariant-explore_plainly-loop-branch g l = record {
-  covered : HasCovered (g.S.Steps.outcome l.steps) (g.S.Steps.rest l.steps) ToEnd l.state (BeginsBelow l.lengths l.initial.search.done.items l.branch) l.initial.search l.search;
+  covered : HasCovered (g.S.Steps.outcome l.steps) (g.S.Steps.rest l.steps) ToEnd l.state (BeginsBelow (g.O.Order.order l.order) l.lengths l.initial.search.done.items l.branch) l.initial.search l.search;
   some_left : (b : ℕ) × (slice_index l.initial.search.done.items b < slice_index l.lengths b);
 }

@@ -15,6 +15,6 @@ invariant-explore_unless_remembered-loop-branch g l =
     let here = l.initial.search in
     record {
       fresh : IsFresh l.goal l.search.best;
-      covered : HasCoveredAll (g.S.Steps.outcome l.steps) (g.S.Steps.rest l.steps) l.goal l.lengths (sum here.done.items + 1) l.state (BeginsBelow l.lengths here.done.items l.branch) here l.search l.seen.keys;
+      covered : HasCoveredAll (g.S.Steps.outcome l.steps) (g.S.Steps.rest l.steps) l.goal (g.O.Order.order l.order) l.lengths (sum here.done.items + 1) l.state (BeginsBelow (g.O.Order.order l.order) l.lengths here.done.items l.branch) here l.search l.seen.keys;
       grown : IsGrown (g.S.Steps.outcome l.steps) l.lengths (g.S.Steps.most_rest l.steps) l.branch (sum here.done.items + 1) here.done.items l.state l.initial.seen.keys l.seen.keys here.steps l.search.steps;
     }

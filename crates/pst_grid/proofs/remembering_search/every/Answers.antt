@@ -1,7 +1,14 @@
-use Rattle.pst_grid.proofs.Answering.{ended-every}
+use Rattle.std.proofs.Common.{ℕ}
+use Rattle.pst_grid.specs.declared.steps.EveryAnswer.{EveryAnswer}
+use Rattle.pst_grid.specs.Answers.{IsEveryAnswer, IsEveryAnswerAmong}
+use Rattle.pst_grid.specs.Orders.{any_order, IsMergeInOrder}
+use Rattle.pst_grid.proofs.Orderless.{if-ok-then, any-every-answer}
 use Rattle.pst_grid.proofs.remembering_search.every.Goals as goal
 
 pub returns-clause-answer : goal.returns-clause-answer
 returns-clause-answer g c =
-    ended-every (g.S.Steps.outcome c.args.steps.now) (g.S.Steps.rest c.args.steps.now) c.args.lengths.now c.args.start.now c.in_ok-search.search c.in_ok-search.field-0-0 c.into_every_answer.result
-    c.in_ok-search.ensures.explored c.into_every_answer.ensures
+    let turn = g.S.Steps.outcome c.args.steps.now in
+    let rest = g.S.Steps.rest c.args.steps.now in
+    let lengths = c.args.lengths.now in
+    if-ok-then (λ (r : EveryAnswer _ × ℕ). IsEveryAnswerAmong turn rest lengths c.args.start.now (IsMergeInOrder any_order lengths) r.0) (λ (r : EveryAnswer _ × ℕ). IsEveryAnswer turn rest lengths c.args.start.now r.0)
+    (λ r h. any-every-answer turn rest lengths c.args.start.now r.0 h) _ c.every_in_order.ensures.answer

@@ -8,8 +8,8 @@ pub returns-clause-explored : goal.returns-clause-explored
 returns-clause-explored g c =
     let new = c.in_ok-search.ensures in
     let search = c.in_ok-search.search in
-    from_start (g.S.Steps.outcome c.args.steps.now) (g.S.Steps.rest c.args.steps.now) c.args.lengths.now c.args.start.now c.args.goal search c.explore_unless_remembered.new.search c.in_ok-found.found new.done new.word new.best
-    (from_search (g.S.Steps.outcome c.args.steps.now) (g.S.Steps.rest c.args.steps.now) c.args.lengths.now c.args.start.now c.args.goal (sum search.done.items) search c.explore_unless_remembered.new.search c.explore_unless_remembered.new.seen.keys c.in_ok-found.found c.in_ok-found.ensures.ends)
+    from_start (g.S.Steps.outcome c.args.steps.now) (g.S.Steps.rest c.args.steps.now) (g.O.Order.order c.args.order.now) c.args.lengths.now c.args.start.now c.args.goal search c.explore_unless_remembered.new.search c.in_ok-found.found new.done new.word new.best
+    (from_search (g.S.Steps.outcome c.args.steps.now) (g.S.Steps.rest c.args.steps.now) (g.O.Order.order c.args.order.now) c.args.lengths.now c.args.start.now c.args.goal (sum search.done.items) search c.explore_unless_remembered.new.search c.explore_unless_remembered.new.seen.keys c.in_ok-found.found c.in_ok-found.ensures.ends)
 
 pub returns-clause-bound : goal.returns-clause-bound
 returns-clause-bound g c =

@@ -1,6 +1,6 @@
 use Rattle.std.proofs.Common.{◌≡◌, ◌+◌, ap, ◌∙◌, get_or, set, sum, arith}
 use Rattle.std.proofs.lemmas.Grind.{common_steps}
-use Rattle.pst_grid.proofs.Searching.{sum-left, sum-more}
+use Rattle.pst_grid.proofs.Placing.{sum-left, sum-more}
 use Rattle.pst_grid.proofs.search.SearchProgress.advance_in_branch.Goals as goal
 
 pub returns-clause-fewer_left : goal.returns-clause-fewer_left
