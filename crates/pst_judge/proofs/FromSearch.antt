@@ -1,10 +1,11 @@
 -- The verdict on a history: by the answer of the search, or where the prefix stops.
-use Rattle.std.proofs.Common.{◌≡◌, ℕ, ◌+◌, List, sym, ap, ◌∙◌, arith}
+use Rattle.std.proofs.Common.{◌≡◌, ℕ, ◌+◌, Bool, List, sym, ap, ◌∙◌, arith}
 use Rattle.pst_case.specs.declared.case.Case.{Case}
 use Rattle.pst_case.specs.declared.history.History.{History}
-use Rattle.pst_grid.specs.Answers.{IsAnswer, ending}
+use Rattle.pst_grid.specs.Answers.{IsAnswerAmong, ending}
 use Rattle.pst_grid.specs.Completions.{fill_from}
-use Rattle.pst_grid.specs.Merges.{IsMerge, IsUpTo, none_done}
+use Rattle.pst_grid.specs.Merges.{IsMerge, IsLeast, IsUpTo, none_done}
+use Rattle.pst_grid.specs.Orders.{IsMergeInOrder, NeverBlocks}
 use Rattle.pst_grid.specs.declared.steps.Ending.{Ending}
 use Rattle.pst_grid.specs.declared.steps.Ending.TheVariants.{AllTrue, StopsAt}
 use Rattle.pst_grid.specs.declared.steps.SomeAnswer.{SomeAnswer}
@@ -14,10 +15,11 @@ use Rattle.pst_grid.specs.declared.steps.StopReason.{StopReason}
 use Rattle.pst_grid.specs.declared.steps.StopReason.TheVariants.{False, Fault}
 use Rattle.pst_grid.proofs.Filling.{Completes-fill, fill_least}
 use Rattle.pst_grid.proofs.Answering.{IsAt-none, completes, merge}
+use Rattle.pst_grid.proofs.Opening.{Extends-filled, fill, filled_least}
 use Rattle.pst_judge.proofs.Shifted.{shifted, shifted-true, shifted-stops, from_true, from_false, from_fault}
 use Rattle.pst_judge.specs.Replay.{Asking, replayed_asking, branch_lengths}
 use Rattle.pst_judge.specs.FromAnswer.{verdict_of}
-use Rattle.pst_judge.specs.Verdict.{IsJudgedAsking}
+use Rattle.pst_judge.specs.InOrder.{IsJudgedAmong}
 use Rattle.pst_eval.specs.declared.callbacks.FaultPlace.{FaultPlace}
 use Rattle.pst_judge.specs.declared.judgement.Verdict.TheVariants.{Faulted, Unexplained}
 use Rattle.pst_model.specs.declared.model.Source.{Source}
@@ -35,24 +37,35 @@ pub first_is_least : (lengths : List ℕ) (v : List ℕ) → IsMerge lengths v �
 unfolding first_merge
 first_is_least lengths v k = fill_least lengths (none_done lengths) v (merge lengths v k)
 
-module _ (m : Source) (asked : Asking) (c : Case) (h : History) where
+-- there is a least merge in order
+pub first_in_order : (order : List ℕ → ℕ → Bool) (lengths : List ℕ) → NeverBlocks order lengths → (w : List ℕ) × IsLeast (IsMergeInOrder order lengths) w
+first_in_order order lengths never =
+    let at = IsAt-none lengths in
+    let f = fill order lengths never (none_done lengths) at in
+    let e = Extends-filled order lengths (none_done lengths) f.0 at f.1 in
+    (f.0, ((completes lengths f.0 e.0, e.1), λ v k. filled_least order lengths (none_done lengths) f.0 v at f.1 (merge lengths v k.0, k.1)))
+
+module _ (m : Source) (asked : Asking) (order : List ℕ → ℕ → Bool) (c : Case) (h : History) where
   abbrev pub lengths : List ℕ
   lengths = branch_lengths c
 
+  abbrev pub W : List ℕ → Type 0
+  W = IsMergeInOrder order lengths
+
   -- ---- all words stop at one event of the prefix, or at the opening state
 
-  pub stopped_false : (n : ℕ) → ((w : List ℕ) → replayed_asking m asked c h w ≡ StopsAt n False) → IsJudgedAsking m asked c h (Unexplained n)
-  stopped_false n all = (
+  pub stopped_false : NeverBlocks order lengths → (n : ℕ) → ((w : List ℕ) → replayed_asking m asked c h w ≡ StopsAt n False) → IsJudgedAmong m asked c h W (Unexplained n)
+  stopped_false never n all = let first = first_in_order order lengths never in (
     λ v k. let q = sym (all v) ∙ k.1 in cc,
     λ v k. let q = sym (all v) ∙ k.1.2 in cc,
-    (first_merge lengths, (first_is_merge lengths, all (first_merge lengths))),
+    (first.0, (first.1.0, all first.0)),
     λ v j k. let q = sym (all v) ∙ k.1 in let p : n ≡ j = cc in omega (arith, p),
   )
 
-  pub stopped_fault : (n : ℕ) (p : FaultPlace) → ((w : List ℕ) → replayed_asking m asked c h w ≡ StopsAt n (Fault p)) → IsJudgedAsking m asked c h (Faulted p)
-  stopped_fault n p all = (
+  pub stopped_fault : NeverBlocks order lengths → (n : ℕ) (p : FaultPlace) → ((w : List ℕ) → replayed_asking m asked c h w ≡ StopsAt n (Fault p)) → IsJudgedAmong m asked c h W (Faulted p)
+  stopped_fault never n p all = let first = first_in_order order lengths never in (
     λ v k. let q = sym (all v) ∙ k.1 in cc,
-    (first_merge lengths, ((first_is_merge lengths, (n, p, all (first_merge lengths))), λ v k. first_is_least lengths v k.0), (n, all (first_merge lengths))),
+    (first.0, ((first.1.0, (n, p, all first.0)), λ v k. first.1.1 v k.0), (n, all first.0)),
   )
 
   -- ---- the prefix is through, and the search has answered
@@ -67,7 +80,7 @@ module _ (m : Source) (asked : Asking) (c : Case) (h : History) where
     stops_to : (w : List ℕ) (k : ℕ) (why : StopReason FaultPlace) → ending turn rest lengths s w ≡ StopsAt k why → replayed_asking m asked c h w ≡ StopsAt (n + k) why
     stops_to w k why e = all w ∙ ap (shifted n) e ∙ shifted-stops n k why
 
-    pub judged_by : (a : SomeAnswer FaultPlace) → IsAnswer turn rest lengths s a → IsJudgedAsking m asked c h (verdict_of n a)
+    pub judged_by : (a : SomeAnswer FaultPlace) → IsAnswerAmong turn rest lengths s W a → IsJudgedAmong m asked c h W (verdict_of n a)
     judged_by (Found word) k = ((k.0.0, true_to word.items k.0.1), λ v e. k.1 v (e.0, true_from v e.1))
     judged_by (FaultedWord word at place) k = (
       λ w e. k.0 w (e.0, true_from w e.1),

@@ -1,12 +1,13 @@
 -- The letters of the merge that a verdict rests on.
-use Rattle.std.proofs.Common.{◌≡◌, ℕ, zero, suc, ◌+◌, ◌-◌, ◌≤◌, List, [], ◌∷◌, ◌++◌, length, take, drop, ◌⊎◌, inl, inr, refl, sym, ap, ◌∙◌, subst, get_or, arith}
+use Rattle.std.proofs.Common.{◌≡◌, ℕ, zero, suc, ◌+◌, ◌-◌, ◌≤◌, Bool, List, [], ◌∷◌, ◌++◌, length, take, drop, ◌⊎◌, inl, inr, refl, sym, ap, ◌∙◌, subst, get_or, arith}
 use Rattle.std.proofs.lemmas.List.{take-append-drop, length-take-le, take_all, append-nil}
 use Rattle.std.proofs.lemmas.Bool.Decides.{nat_tests}
 use Rattle.pst_case.specs.declared.case.Case.{Case}
 use Rattle.pst_case.specs.declared.history.History.{History}
 use Rattle.pst_eval.specs.declared.callbacks.FaultPlace.{FaultPlace}
-use Rattle.pst_grid.specs.Answers.{IsAnswer, ending}
+use Rattle.pst_grid.specs.Answers.{IsAnswerAmong, ending}
 use Rattle.pst_grid.specs.Merges.{IsMerge, IsUpTo, after, later, run, one_more, times, none_done}
+use Rattle.pst_grid.specs.Orders.{IsMergeInOrder, NeverBlocks}
 use Rattle.pst_grid.specs.declared.steps.Ending.{Ending}
 use Rattle.pst_grid.specs.declared.steps.Ending.TheVariants.{AllTrue, StopsAt}
 use Rattle.pst_grid.specs.declared.steps.SomeAnswer.{SomeAnswer}
@@ -15,12 +16,12 @@ use Rattle.pst_grid.specs.declared.steps.StepOutcome.{StepOutcome}
 use Rattle.pst_grid.specs.declared.steps.StepOutcome.TheVariants.{Next, Stop}
 use Rattle.pst_grid.specs.declared.steps.StopReason.{StopReason}
 use Rattle.pst_grid.specs.declared.steps.StopReason.TheVariants.{False, Fault}
-use Rattle.pst_judge.proofs.FromSearch.{first_merge, first_is_merge, first_is_least, judged_by}
+use Rattle.pst_judge.proofs.FromSearch.{first_in_order, judged_by}
 use Rattle.pst_judge.proofs.Shifted.{shifted, shifted-true, shifted-stops, from_false, from_fault}
 use Rattle.pst_judge.specs.FromAnswer.{verdict_of, letters_of}
-use Rattle.pst_judge.specs.Interleaving.{IsFurthestAsking, IsFaultingAsking, HasLettersAsking, IsInterleaving, word_or}
-use Rattle.pst_judge.specs.Replay.{Asking, post_asked, replayed_asking, branch_lengths}
-use Rattle.pst_judge.specs.Verdict.{IsJudgedAsking}
+use Rattle.pst_judge.specs.InOrder.{IsFurthestAmong, IsFaultingAmong, HasLettersAmong, IsInterleavingAmong, IsJudgedAmong}
+use Rattle.pst_judge.specs.Interleaving.{word_or}
+use Rattle.pst_judge.specs.Replay.{Asking, replayed_asking, branch_lengths}
 use Rattle.pst_judge.specs.declared.judgement.Verdict.{Verdict}
 use Rattle.pst_judge.specs.declared.judgement.Verdict.TheVariants.{Explained, Faulted, Unexplained, Broken}
 use Rattle.pst_model.specs.declared.model.Source.{Source}
@@ -71,25 +72,28 @@ module _ {S F : Type 0} (turn : S → ℕ → ℕ → StepOutcome S F) (rest : S
 
 -- ---- the letters of a verdict
 
-module _ (m : Source) (asked : Asking) (c : Case) (h : History) where
+module _ (m : Source) (asked : Asking) (order : List ℕ → ℕ → Bool) (c : Case) (h : History) where
   abbrev lengths : List ℕ
   lengths = branch_lengths c
+
+  abbrev W : List ℕ → Type 0
+  W = IsMergeInOrder order lengths
 
   -- no letters, where all merges stop before the branches
   no_letters_before : (n : ℕ) (merge : List ℕ) → n ≤ length c.prefix → [] ≡ take (n - length c.prefix) merge
   no_letters_before n merge early = let none : n - length c.prefix ≡ 0 = omega (arith, early) in sym (ap (λ left. take left merge) none)
 
-  pub furthest_early : (n : ℕ) → ((w : List ℕ) → replayed_asking m asked c h w ≡ StopsAt n False) → n ≤ length c.prefix → IsFurthestAsking m asked c h n []
-  furthest_early n all early =
-      let first = first_merge lengths in (
-        (first, ((first_is_merge lengths, all first), λ w other. first_is_least lengths w other.0), no_letters_before n first early),
-        ((first, first_is_merge lengths), λ more merge. all more),
+  pub furthest_early : NeverBlocks order lengths → (n : ℕ) → ((w : List ℕ) → replayed_asking m asked c h w ≡ StopsAt n False) → n ≤ length c.prefix → IsFurthestAmong m asked c h W n []
+  furthest_early never n all early =
+      let first = first_in_order order lengths never in (
+        (first.0, ((first.1.0, all first.0), λ w other. first.1.1 w other.0), no_letters_before n first.0 early),
+        ((first.0, first.1.0), λ more merge. all more),
       )
 
-  pub faulting_early : (n : ℕ) (p : FaultPlace) → ((w : List ℕ) → replayed_asking m asked c h w ≡ StopsAt n (Fault p)) → n ≤ length c.prefix → IsFaultingAsking m asked c h p []
-  faulting_early n p all early =
-      let first = first_merge lengths in
-      (first, n, ((first_is_merge lengths, (n, p, all first)), λ w other. first_is_least lengths w other.0), all first, no_letters_before n first early)
+  pub faulting_early : NeverBlocks order lengths → (n : ℕ) (p : FaultPlace) → ((w : List ℕ) → replayed_asking m asked c h w ≡ StopsAt n (Fault p)) → n ≤ length c.prefix → IsFaultingAmong m asked c h W p []
+  faulting_early never n p all early =
+      let first = first_in_order order lengths never in
+      (first.0, n, ((first.1.0, (n, p, all first.0)), λ w other. first.1.1 w other.0), all first.0, no_letters_before n first.0 early)
 
   -- the prefix is through, and the search has answered
   module _ (turn : Value → ℕ → ℕ → StepOutcome Value FaultPlace) (rest : Value → Ending FaultPlace) (s : Value) (all : (w : List ℕ) → replayed_asking m asked c h w ≡ shifted (length c.prefix) (ending turn rest lengths s w)) where
@@ -112,9 +116,9 @@ module _ (m : Source) (asked : Asking) (c : Case) (h : History) where
     letters_left : (k : ℕ) (w : List ℕ) → take k w ≡ take ((prefix + k) - prefix) w
     letters_left k w = let left : (prefix + k) - prefix ≡ k = omega arith in sym (ap (λ n. take n w) left)
 
-    module _ (far : ℕ) (judged : IsJudgedAsking m asked c h (Unexplained (prefix + far))) where
+    module _ (far : ℕ) (judged : IsJudgedAmong m asked c h W (Unexplained (prefix + far))) where
       -- each merge that begins so stops as far
-      stops_there : (w more : List ℕ) → IsMerge lengths w → from w ≡ StopsAt far False → IsMerge lengths (take far w ++ more) → replayed_asking m asked c h (take far w ++ more) ≡ StopsAt (prefix + far) False
+      stops_there : (w more : List ℕ) → W w → from w ≡ StopsAt far False → W (take far w ++ more) → replayed_asking m asked c h (take far w ++ more) ≡ StopsAt (prefix + far) False
       stops_there w more merge stops other = at (short_or_long far (length w))
         where
           u : List ℕ
@@ -138,18 +142,18 @@ module _ (m : Source) (asked : Asking) (c : Case) (h : History) where
           at (inr long) =
               let whole : take far w ≡ w = take_all far w long in
               let P : List ℕ → Type 0 = λ x. IsMerge lengths (x ++ more) in
-              let none : more ≡ [] = no_more lengths w more merge (subst P whole other) in
+              let none : more ≡ [] = no_more lengths w more merge.0 (subst P whole other.0) in
               let same : u ≡ w = ap (λ x. x ++ more) whole ∙ ap (λ x. w ++ x) none ∙ append-nil w in
               ap (replayed_asking m asked c h) same ∙ stops_to w far False stops
 
-      furthest_by : (w : List ℕ) → IsMerge lengths w → from w ≡ StopsAt far False → ((v : List ℕ) → IsMerge lengths v × (from v ≡ StopsAt far False) → IsUpTo w v) → IsFurthestAsking m asked c h (prefix + far) (take far w)
+      furthest_by : (w : List ℕ) → W w → from w ≡ StopsAt far False → ((v : List ℕ) → W v × (from v ≡ StopsAt far False) → IsUpTo w v) → IsFurthestAmong m asked c h W (prefix + far) (take far w)
       furthest_by w merge stops least =
-          let Q : List ℕ → Type 0 = λ x. IsMerge lengths x in (
+          let Q : List ℕ → Type 0 = λ x. W x in (
             (w, ((merge, stops_to w far False stops), λ v e. least v (e.0, false_from v far e.1)), letters_left far w),
             ((drop far w, subst Q (sym (take-append-drop far w)) merge), λ more other. stops_there w more merge stops other),
           )
 
-    pub letters_by : (a : SomeAnswer FaultPlace) → IsAnswer turn rest lengths s a → HasLettersAsking m asked c h (verdict_of prefix a) (letters_of a)
+    pub letters_by : (a : SomeAnswer FaultPlace) → IsAnswerAmong turn rest lengths s W a → HasLettersAmong m asked c h W (verdict_of prefix a) (letters_of a)
     letters_by (Found word) k = tt
     letters_by (FaultedWord word at place) k =
         let stops = stops_to word.items at (Fault place) k.1.1 in (
@@ -160,11 +164,12 @@ module _ (m : Source) (asked : Asking) (c : Case) (h : History) where
           letters_left at word.items,
         )
     letters_by (Nothing far word) k =
-        furthest_by far (judged_by m asked c h turn rest s prefix all (Nothing far word) k) word.items k.2.0.0 k.2.0.1 k.2.1
+        furthest_by far (judged_by m asked order c h turn rest s prefix all (Nothing far word) k) word.items k.2.0.0 k.2.0.1 k.2.1
 
--- where each event's postcondition is asked, with the word of a verdict that explains
-pub interleaving_of : (m : Source) (c : Case) (h : History) (v : Verdict) (letters word : List ℕ) → HasLettersAsking m (post_asked m) c h v letters → word ≡ word_or v letters → IsInterleaving m c h v word
-interleaving_of m c h (Explained w) letters word k e = e
-interleaving_of m c h (Faulted place) letters word k e = subst (IsFaultingAsking m (post_asked m) c h place) (sym e) k
-interleaving_of m c h (Unexplained far) letters word k e = subst (IsFurthestAsking m (post_asked m) c h far) (sym e) k
-interleaving_of m c h (Broken number) letters word k e = e ∙ k
+-- with the word of a verdict that explains
+module _ (m : Source) (asked : Asking) (c : Case) (h : History) (W : List ℕ → Type 0) where
+  pub interleaving_of : (v : Verdict) (letters word : List ℕ) → HasLettersAmong m asked c h W v letters → word ≡ word_or v letters → IsInterleavingAmong m asked c h W v word
+  interleaving_of (Explained w) letters word k e = e
+  interleaving_of (Faulted place) letters word k e = subst (IsFaultingAmong m asked c h W place) (sym e) k
+  interleaving_of (Unexplained far) letters word k e = subst (IsFurthestAmong m asked c h W far) (sym e) k
+  interleaving_of (Broken number) letters word k e = e ∙ k

@@ -1,7 +1,8 @@
 -- The verdict that an answer of the search stands for.
-use Rattle.std.specs.Prelude.{◌≡◌, ℕ, ◌+◌, List, [], take}
+use Rattle.std.specs.Prelude.{◌≡◌, ℕ, ◌+◌, Bool, List, [], take}
 use Rattle.pst_eval.specs.declared.callbacks.FaultPlace.{FaultPlace}
-use Rattle.pst_grid.specs.Answers.{IsAnswer}
+use Rattle.pst_grid.specs.Answers.{IsAnswerAmong}
+use Rattle.pst_grid.specs.Orders.{IsMergeInOrder}
 use Rattle.pst_grid.specs.declared.steps.SomeAnswer.{SomeAnswer}
 use Rattle.pst_grid.specs.declared.steps.SomeAnswer.TheVariants.{Found, Faulted as FaultedWord, Nothing}
 use Rattle.pst_judge.specs.Replay.{Asking, branch_outcome_asking}
@@ -24,14 +25,15 @@ letters_of (Found word) = []
 letters_of (FaultedWord word at place) = take at word.items
 letters_of (Nothing far word) = take far word.items
 
--- the verdict of a search over the merges of branches with these events, from a state that so many events
--- lead to, and with these events behind each merge; and the letters of its merge
+-- the verdict of a search over the merges in order of branches with these events, from a state that so many
+-- events lead to, and with these events behind each merge; and the letters of its merge
 abbrev pub IsVerdictOfSearch :
-    Source → Asking → (branches : List (List Event)) → (suffix : List Event) → (lengths : List ℕ)
-    → (prefix : ℕ) → Value → Verdict → (letters : List ℕ) → Type 0
-IsVerdictOfSearch m asked branches suffix lengths prefix s v letters =
+    Source → Asking → (branches : List (List Event)) → (suffix : List Event)
+    → (order : List ℕ → ℕ → Bool) → (lengths : List ℕ) → (prefix : ℕ) → Value → Verdict → (letters : List ℕ) → Type 0
+IsVerdictOfSearch m asked branches suffix order lengths prefix s v letters =
     (answer : SomeAnswer FaultPlace)
-    × IsAnswer (branch_outcome_asking m asked branches) (last_events m asked suffix) lengths s answer
+    × IsAnswerAmong (branch_outcome_asking m asked branches) (last_events m asked suffix) lengths s
+    (IsMergeInOrder order lengths) answer
     × (v ≡ verdict_of prefix answer)
     × (letters ≡ letters_of answer)
 

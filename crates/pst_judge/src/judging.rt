@@ -3,13 +3,16 @@ ghost use Rattle.std.specs.Prelude.{◌≡◌, ◌+◌, ◌<◌, ◌^◌, true, 
 ghost use Rattle.pst_case.specs.Matches.{matches};
 ghost use Rattle.pst_case.specs.Recorded.{recorded};
 ghost use Rattle.pst_case.specs.Shape.{IsShaped};
+ghost use Rattle.pst_grid.specs.Orders.{NeverBlocks};
 ghost use Rattle.pst_judge.specs.FromAnswer.{IsVerdictOfSearch};
-ghost use Rattle.pst_judge.specs.Interleaving.{HasLettersAsking, IsInterleaving, word_or};
+ghost use Rattle.pst_judge.specs.InOrder.{HasLettersAmong, HasLettersInOrderAsking, IsInterleavingInOrder, IsJudgedAmong, IsRunInOrder, IsVerdictInOrder, IsVerdictInOrderAsking};
+ghost use Rattle.pst_judge.specs.InTime.{AreTimesOf, IsVerdictInTime};
+ghost use Rattle.pst_judge.specs.Interleaving.{IsInterleaving, word_or};
 ghost use Rattle.pst_judge.specs.Real.{FaultsOnlyInPost};
 ghost use Rattle.pst_judge.specs.Replay.{branch_events, branch_lengths, suffix_events};
 ghost use Rattle.pst_judge.specs.Running.{IsRealState};
 ghost use Rattle.pst_judge.specs.Validity.{IsValid};
-ghost use Rattle.pst_judge.specs.Verdict.{first_broken, IsVerdict, IsVerdictAsking, IsJudgedAsking};
+ghost use Rattle.pst_judge.specs.Verdict.{first_broken, IsVerdict, IsVerdictAsking};
 ghost use Rattle.pst_model.specs.WellTyped.{WellModel};
 
 use crate::events::{branch_and_suffix_events, events_of_prefix};
@@ -18,7 +21,7 @@ use crate::replay::{Condition, EventsEnd, Postconditions, run_events};
 use crate::search::search;
 use pst_case::{History, Shaped};
 use pst_eval::{Callback, Callbacks, FaultPlace};
-use pst_grid::StopReason;
+use pst_grid::{AnyOrder, Order, RealTime, StopReason};
 use pst_value::Value;
 use std::alloc::{AllocError, Global};
 
@@ -36,9 +39,10 @@ fn number_of_first_missing_result(number: u32, results: &[Option<Value>]) -> Opt
 
 /// The verdict on a history whose replies are all values, from the state after the prefix. If no interleaving explains
 /// it, also returns the branch numbers of the true events in the interleaving that the verdict rests on.
-fn verdict_after_prefix<C: Callbacks, A: Condition>(
+fn verdict_after_prefix<C: Callbacks, A: Condition, O: Order>(
     callbacks: &C,
     condition: &A,
+    order: &O,
     alloc: Global,
     shaped: &Shaped,
     history: &History,
@@ -50,19 +54,21 @@ fn verdict_after_prefix<C: Callbacks, A: Condition>(
     requires results { results.now ≡ recorded history.now }
     requires answered { first_broken 1 (recorded history.now) ≡ None }
     requires state { IsRealState (C.model callbacks.now) shaped.now.case state.now }
+    requires progress { NeverBlocks (O.order order.now) (branch_lengths shaped.now.case) }
     ensures { let c = shaped.now.case in let m = C.model callbacks.now in IfOk result
-        (λ r. IsVerdictOfSearch m (A.asked condition.now m) (branch_events c history.now)
-        (suffix_events c history.now) (branch_lengths c) (length c.prefix) state.now r.0 r.1.items) }
+        (λ r. IsVerdictOfSearch m (A.asked condition.now m) (branch_events c history.now) (suffix_events c history.now)
+        (O.order order.now) (branch_lengths c) (length c.prefix) state.now r.0 r.1.items) }
 {
     let branches = branch_and_suffix_events(callbacks, condition, alloc, shaped, history, results)?;
-    search(alloc, &branches, state, shaped.case().prefix.len())
+    search(alloc, &branches, order, state, shaped.case().prefix.len())
 }
 
 /// The verdict on a history whose replies are all values. If no interleaving explains it, also returns the branch
 /// numbers of the true events in the interleaving that the verdict rests on.
-fn verdict_on_all_value_replies<C: Callbacks, A: Condition>(
+fn verdict_on_all_value_replies<C: Callbacks, A: Condition, O: Order>(
     callbacks: &C,
     condition: &A,
+    order: &O,
     alloc: Global,
     shaped: &Shaped,
     history: &History,
@@ -72,10 +78,12 @@ fn verdict_on_all_value_replies<C: Callbacks, A: Condition>(
     requires matches { matches (C.model callbacks.now) shaped.now.case history.now ≡ true }
     requires results { results.now ≡ recorded history.now }
     requires answered { first_broken 1 (recorded history.now) ≡ None }
-    ensures verdict { let m = C.model callbacks.now in IfOk result
-        (λ r. IsJudgedAsking m (A.asked condition.now m) shaped.now.case history.now r.0) }
-    ensures letters { let m = C.model callbacks.now in IfOk result
-        (λ r. HasLettersAsking m (A.asked condition.now m) shaped.now.case history.now r.0 r.1.items) }
+    requires progress { NeverBlocks (O.order order.now) (branch_lengths shaped.now.case) }
+    ensures verdict { let c = shaped.now.case in let m = C.model callbacks.now in IfOk result
+        (λ r. IsJudgedAmong m (A.asked condition.now m) c history.now (IsRunInOrder (O.order order.now) c) r.0) }
+    ensures letters { let c = shaped.now.case in let m = C.model callbacks.now in IfOk result
+        (λ r. HasLettersAmong m (A.asked condition.now m) c history.now (IsRunInOrder (O.order order.now) c)
+        r.0 r.1.items) }
 {
     let (state, _) = match callbacks.init(alloc)? {
         Ok(opening) => opening,
@@ -91,7 +99,9 @@ fn verdict_on_all_value_replies<C: Callbacks, A: Condition>(
     let prefix = events_of_prefix(alloc, shaped, history, results)?;
     match run_events(callbacks, condition, alloc, state, prefix.as_slice())? {
         EventsEnd::Through(last) => {
-            verdict_after_prefix(callbacks, condition, alloc, shaped, history, results, &last)
+            verdict_after_prefix(
+                callbacks, condition, order, alloc, shaped, history, results, &last,
+            )
         }
         EventsEnd::Stopped(at, StopReason::False) => Ok((
             Verdict::Unexplained(at),
@@ -103,21 +113,25 @@ fn verdict_on_all_value_replies<C: Callbacks, A: Condition>(
     }
 }
 
-/// The verdict on a history of a case, with `condition` checked on each event. If the verdict rests on an interleaving
-/// that does not explain the history, also returns the branch numbers of its true events.
-fn verdict_with_true_event_branches<C: Callbacks, A: Condition>(
+/// The verdict on a history of a case over the interleavings in order, with `condition` checked on each event. If the
+/// verdict rests on an interleaving that does not explain the history, also returns the branch numbers of its true
+/// events.
+fn verdict_with_true_event_branches<C: Callbacks, A: Condition, O: Order>(
     callbacks: &C,
     condition: &A,
+    order: &O,
     alloc: Global,
     shaped: &Shaped,
     history: &History,
 ) -> Result<(Verdict, Vec<usize>), AllocError>
     requires model { shaped.now.model ≡ C.model callbacks.now }
     requires matches { matches (C.model callbacks.now) shaped.now.case history.now ≡ true }
+    requires progress { NeverBlocks (O.order order.now) (branch_lengths shaped.now.case) }
     ensures verdict { let m = C.model callbacks.now in IfOk result
-        (λ r. IsVerdictAsking m (A.asked condition.now m) shaped.now.case history.now r.0) }
+        (λ r. IsVerdictInOrderAsking m (A.asked condition.now m) (O.order order.now) shaped.now.case history.now r.0) }
     ensures letters { let m = C.model callbacks.now in IfOk result
-        (λ r. HasLettersAsking m (A.asked condition.now m) shaped.now.case history.now r.0 r.1.items) }
+        (λ r. HasLettersInOrderAsking m (A.asked condition.now m) (O.order order.now) shaped.now.case history.now
+        r.0 r.1.items) }
 {
     let _case = shaped.case();
     let results = history.recorded(alloc)?;
@@ -126,12 +140,38 @@ fn verdict_with_true_event_branches<C: Callbacks, A: Condition>(
         None => verdict_on_all_value_replies(
             callbacks,
             condition,
+            order,
             alloc,
             shaped,
             history,
             results.as_slice(),
         ),
     }
+}
+
+/// Returns the verdict on a history of a case over the interleavings in `order`, with `condition` checked on each event,
+/// by the model of the callbacks.
+///
+/// It is [`verdict_in_order`] with the condition in place of each event's postcondition. The order must never block.
+/// `AllocError` means that an allocation failed.
+pub fn verdict_with_condition_in_order<C: Callbacks, A: Condition, O: Order>(
+    callbacks: &C,
+    condition: &A,
+    order: &O,
+    alloc: Global,
+    shaped: &Shaped,
+    history: &History,
+) -> Result<Verdict, AllocError>
+    requires model { shaped.now.model ≡ C.model callbacks.now }
+    requires matches { matches (C.model callbacks.now) shaped.now.case history.now ≡ true }
+    requires progress { NeverBlocks (O.order order.now) (branch_lengths shaped.now.case) }
+    ensures { let m = C.model callbacks.now in IfOk result
+        (IsVerdictInOrderAsking m (A.asked condition.now m) (O.order order.now) shaped.now.case history.now) }
+{
+    let (verdict, _) = verdict_with_true_event_branches(
+        callbacks, condition, order, alloc, shaped, history,
+    )?;
+    Ok(verdict)
 }
 
 /// The verdict on a history of a case, with `condition` checked on each event, by the model of the callbacks.
@@ -149,10 +189,32 @@ pub fn verdict_with_condition<C: Callbacks, A: Condition>(
     ensures { let m = C.model callbacks.now in IfOk result
         (IsVerdictAsking m (A.asked condition.now m) shaped.now.case history.now) }
 {
-    let (verdict, _) = verdict_with_true_event_branches(
-        callbacks, condition, alloc, shaped, history,
-    )?;
-    Ok(verdict)
+    verdict_with_condition_in_order(callbacks, condition, &AnyOrder, alloc, shaped, history)
+}
+
+/// Returns the verdict on a history of a case over the interleavings in `order`, by the model of the callbacks.
+///
+/// It is [`verdict`] where only the interleavings in the order count: one that is not in order does not count, wherever
+/// it would stop. With the times of the calls, [`RealTime`], a history is explained if it is *linearizable*; with
+/// [`AnyOrder`] it is explained if it is *sequentially consistent*. The order must never block: wherever commands of
+/// the branches are left, some branch that has one is open. `AllocError` means that an allocation failed.
+pub fn verdict_in_order<C: Callbacks, O: Order>(
+    callbacks: &C,
+    order: &O,
+    alloc: Global,
+    shaped: &Shaped,
+    history: &History,
+) -> Result<Verdict, AllocError>
+    requires model { shaped.now.model ≡ C.model callbacks.now }
+    requires matches { matches (C.model callbacks.now) shaped.now.case history.now ≡ true }
+    requires progress { NeverBlocks (O.order order.now) (branch_lengths shaped.now.case) }
+    ensures verdict { IfOk result
+        (IsVerdictInOrder (C.model callbacks.now) (O.order order.now) shaped.now.case history.now) }
+    ensures faults { IfOk result (λ v. WellModel (C.model callbacks.now)
+        → IsValid (C.model callbacks.now) shaped.now.case → FaultsOnlyInPost v) }
+{
+    let _case = shaped.case();
+    verdict_with_condition_in_order(callbacks, &Postconditions, order, alloc, shaped, history)
 }
 
 /// The verdict on a history of a case, by the model of the callbacks.
@@ -178,6 +240,31 @@ pub fn verdict<C: Callbacks>(
     verdict_with_condition(callbacks, &Postconditions, alloc, shaped, history)
 }
 
+/// Returns the verdict on a history of a case whose calls have times, by the model of the callbacks.
+///
+/// An interleaving counts if no call is in it before one that precedes it in time: one that completed before it was
+/// invoked. The verdict is `Explained` if the history is *linearizable*. `times` has the times of each branch's calls.
+/// None completed before it was invoked, and each but the last of a branch completed no later than the next was invoked.
+/// The calls of the prefix are before all others, and those of the suffix after. `AllocError` means that an allocation
+/// failed.
+pub fn verdict_in_time<C: Callbacks>(
+    callbacks: &C,
+    times: &RealTime,
+    alloc: Global,
+    shaped: &Shaped,
+    history: &History,
+) -> Result<Verdict, AllocError>
+    requires model { shaped.now.model ≡ C.model callbacks.now }
+    requires matches { matches (C.model callbacks.now) shaped.now.case history.now ≡ true }
+    requires times { AreTimesOf (branch_lengths shaped.now.case) times.now.branches.items }
+    ensures verdict { IfOk result
+        (IsVerdictInTime (C.model callbacks.now) times.now.branches.items shaped.now.case history.now) }
+    ensures faults { IfOk result (λ v. WellModel (C.model callbacks.now)
+        → IsValid (C.model callbacks.now) shaped.now.case → FaultsOnlyInPost v) }
+{
+    verdict_in_order(callbacks, times, alloc, shaped, history)
+}
+
 /// The interleaving of a verdict that explains, or else `letters`.
 fn explaining_interleaving_or_given(
     alloc: Global,
@@ -190,6 +277,38 @@ fn explaining_interleaving_or_given(
         Verdict::Explained(word) => word.to_vec(alloc),
         _ => Ok(letters),
     }
+}
+
+/// Returns the [`verdict_in_order`] on a history of a case, and its interleaving, from one search.
+///
+/// The interleaving is that of [`verdict_with_interleaving`] among the interleavings in `order`. The order must never
+/// block. `AllocError` means that an allocation failed.
+pub fn verdict_with_interleaving_in_order<C: Callbacks, O: Order>(
+    callbacks: &C,
+    order: &O,
+    alloc: Global,
+    shaped: &Shaped,
+    history: &History,
+) -> Result<(Verdict, Vec<usize>), AllocError>
+    requires model { shaped.now.model ≡ C.model callbacks.now }
+    requires matches { matches (C.model callbacks.now) shaped.now.case history.now ≡ true }
+    requires progress { NeverBlocks (O.order order.now) (branch_lengths shaped.now.case) }
+    ensures verdict { IfOk result
+        (λ r. IsVerdictInOrder (C.model callbacks.now) (O.order order.now) shaped.now.case history.now r.0) }
+    ensures interleaving { IfOk result
+        (λ r. IsInterleavingInOrder (C.model callbacks.now) (O.order order.now) shaped.now.case history.now
+        r.0 r.1.items) }
+{
+    let (verdict, letters) = verdict_with_true_event_branches(
+        callbacks,
+        &Postconditions,
+        order,
+        alloc,
+        shaped,
+        history,
+    )?;
+    let word = explaining_interleaving_or_given(alloc, &verdict, letters)?;
+    Ok((verdict, word))
 }
 
 /// The [`verdict`] on a history of a case, and its interleaving, from one search.
@@ -210,13 +329,5 @@ pub fn verdict_with_interleaving<C: Callbacks>(
     ensures interleaving { IfOk result
         (λ r. IsInterleaving (C.model callbacks.now) shaped.now.case history.now r.0 r.1.items) }
 {
-    let (verdict, letters) = verdict_with_true_event_branches(
-        callbacks,
-        &Postconditions,
-        alloc,
-        shaped,
-        history,
-    )?;
-    let word = explaining_interleaving_or_given(alloc, &verdict, letters)?;
-    Ok((verdict, word))
+    verdict_with_interleaving_in_order(callbacks, &AnyOrder, alloc, shaped, history)
 }

@@ -1,6 +1,7 @@
-//! The search over the interleavings of the branches.
+//! The search over the interleavings of the branches that are in order.
 ghost use Rattle.std.specs.Prelude.{◌≡◌, ◌+◌, ◌<◌, ◌≤◌, ◌^◌, IfOk, map, length, sum};
 ghost use Rattle.pst_case.specs.Shape.{result_types};
+ghost use Rattle.pst_grid.specs.Orders.{NeverBlocks};
 ghost use Rattle.pst_judge.specs.FromAnswer.{IsVerdictOfSearch, OnNothing, letters_of, verdict_of};
 ghost use Rattle.pst_judge.specs.Replay.{branch_lengths};
 ghost use Rattle.pst_judge.specs.Running.{BranchesFit, EventsFit, IsRealState};
@@ -11,7 +12,7 @@ use crate::packed::Packed;
 use crate::replay::{Condition, replay_event, run_suffix};
 use pst_case::{Command, Shaped};
 use pst_eval::{Callbacks, FaultPlace};
-use pst_grid::{Ending, SomeAnswer, StepOutcome, Steps, some};
+use pst_grid::{Ending, Order, SomeAnswer, StepOutcome, Steps, some_in_order};
 use pst_value::{Items, Value};
 use std::alloc::{AllocError, Global};
 
@@ -154,12 +155,13 @@ fn verdict_of_search_answer(
     }
 }
 
-/// Searches the interleavings of the branches, from the state after the prefix, with the suffix after each, and returns
-/// the verdict. If no interleaving explains, also returns the branch numbers of the true events in the interleaving
-/// that the verdict rests on. Each `requires` is one fact on what has happened before.
-pub fn search<C: Callbacks, A: Condition>(
+/// Searches the interleavings of the branches that are in order, from the state after the prefix, with the suffix after
+/// each, and returns the verdict. If no interleaving explains, also returns the branch numbers of the true events in the
+/// interleaving that the verdict rests on. Each `requires` is one fact on what has happened before.
+pub fn search<C: Callbacks, A: Condition, O: Order>(
     alloc: Global,
     branches: &Branches<'_, C, A>,
+    order: &O,
     state: &Value,
     prefix: usize,
 ) -> Result<(Verdict, Vec<usize>), AllocError>
@@ -168,14 +170,15 @@ pub fn search<C: Callbacks, A: Condition>(
         BranchesFit m branches.now.shaped.now.case branches.now.events }
     requires events { let m = C.model branches.now.callbacks.now in
         EventsFit m (result_types m branches.now.shaped.now.case) branches.now.suffix }
+    requires progress { NeverBlocks (O.order order.now) (branch_lengths branches.now.shaped.now.case) }
     requires prefix { prefix ≤ 64 }
     requires lengths { sum (branch_lengths branches.now.shaped.now.case) ≤ 16 }
     requires suffix { length branches.now.suffix ≤ 8 }
     ensures { let b = branches.now in let m = C.model b.callbacks.now in IfOk result
         (λ r. IsVerdictOfSearch m (A.asked b.condition.now m) b.events b.suffix
-        (branch_lengths b.shaped.now.case) prefix state.now r.0 r.1.items) }
+        (O.order order.now) (branch_lengths b.shaped.now.case) prefix state.now r.0 r.1.items) }
 {
     let lengths = count_commands_in_each_branch(alloc, branches.shaped.case().branches.as_slice())?;
-    let (answer, _) = some(alloc, branches, lengths.as_slice(), state)?;
+    let (answer, _) = some_in_order(alloc, branches, order, lengths.as_slice(), state)?;
     Ok(verdict_of_search_answer(alloc, prefix, answer))
 }

@@ -1,5 +1,6 @@
 -- what the public contracts cite
 pub mod Reasons
+pub mod InOrder
 pub mod Allowed
 pub mod Equality
 pub mod Names

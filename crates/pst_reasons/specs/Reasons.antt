@@ -3,7 +3,7 @@ use Rattle.std.specs.Prelude.{◌≡◌, ◌==◌, ◌||◌, ℕ, zero, suc, ◌
 use Rattle.pst_case.specs.Shape.{before_suffix}
 use Rattle.pst_case.specs.declared.case.Case.{Case}
 use Rattle.pst_case.specs.declared.history.History.{History}
-use Rattle.pst_grid.specs.Merges.{IsMerge, IsLeast}
+use Rattle.pst_grid.specs.Merges.{IsMerge}
 use Rattle.pst_grid.specs.declared.steps.Ending.TheVariants.{AllTrue}
 use Rattle.pst_judge.specs.Replay.{Asking, post_asked, replayed, replayed_asking, branch_lengths}
 use Rattle.pst_model.specs.declared.model.Source.{Source}
@@ -53,10 +53,6 @@ module _ (m : Source) (c : Case) (h : History) where
   IsTrueAsking numbers word =
       IsMerge (branch_lengths c) word × (replayed_asking m (asks numbers m) c h word ≡ AllTrue)
 
-  -- the least merge that is
-  abbrev pub IsLeastTrue : List ℕ → List ℕ → Type 0
-  IsLeastTrue numbers word = IsLeast (IsTrueAsking numbers) word
-
   -- what these commands answered can all be right: some merge makes their postconditions true
   abbrev pub IsPossible : List ℕ → Type 0
   IsPossible numbers = (word : List ℕ) × IsTrueAsking numbers word
@@ -69,18 +65,6 @@ module _ (m : Source) (c : Case) (h : History) where
   IsCore numbers =
       IsImpossible numbers
       × ((number : ℕ) → is_among number numbers ≡ true → IsPossible (without number numbers))
-
-  -- each of these numbers is needed: with one of them less, and the first ones, it can
-  abbrev pub IsNeeded : List ℕ → List ℕ → Type 0
-  IsNeeded first numbers =
-      (number : ℕ) → is_among number numbers ≡ true → IsPossible (without number (first ++ numbers))
-
-  -- on the way to a core: these numbers cannot all be right with the first ones before them, each of these is
-  -- needed, and all rise
-  pub record IsCoreSoFar (first numbers : List ℕ) : Type 0 where
-    pub impossible : IsImpossible (first ++ numbers)
-    pub needed : IsNeeded first numbers
-    pub rising : AreRising 0 (number_of_commands c) (first ++ numbers)
 
   -- no merge makes all postconditions true
   abbrev pub IsUnexplained : Type 0

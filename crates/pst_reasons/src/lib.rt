@@ -17,7 +17,9 @@ pub use allowing::{
     interleaving_where_answers_are_wrong, is_answer_allowed,
 };
 pub use conditions::SomePostconditions;
-pub use cores::{append_numbers_without, count_branch_commands, minimal_core};
+pub use cores::{
+    append_numbers_without, count_branch_commands, minimal_core, minimal_core_in_order,
+};
 pub use laws::equality_has_one_answer;
 pub use recorded::RecordedRun;
 pub use state_list::states;

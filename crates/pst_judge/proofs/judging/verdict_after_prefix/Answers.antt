@@ -30,3 +30,6 @@ pub returns : goal.returns
 returns g c =
     let n : c.len.result ≡ length c.args.shaped.now.case.prefix = c.len.ensures ∙ ap (λ x. length x.prefix) c.case.ensures.same in
     rw (c.in_ok-branches.ensures.events, c.in_ok-branches.ensures.suffix, c.in_ok-branches.ensures.callbacks, c.in_ok-branches.ensures.condition, c.in_ok-branches.ensures.shaped, n) at c.search.ensures
+
+pub search-requires-clause-progress : goal.search-requires-clause-progress
+search-requires-clause-progress g c = rw c.in_ok-branches.ensures.shaped c.requires.progress
