@@ -5,6 +5,7 @@ use clap::builder::ValueParser;
 use clap::error::ErrorKind;
 use clap::{ArgMatches, Command, Error};
 use pst_cli::Status;
+use pst_syntax_problems::NearestNameSoFar;
 use std::alloc::{AllocError, Global};
 use std::rt::Runtime;
 use std::{env, io};
@@ -71,6 +72,110 @@ fn message_if_option_number_is_invalid(
     }
 }
 
+/// Returns the word in single quotes after `before` in the text of an error, if there is one.
+fn quoted_word_after<'a>(text: &'a str, before: &str) -> Option<&'a str> {
+    let (_, text) = text.split_once(before)?;
+    let (_, text) = text.split_once('\'')?;
+    let (word, _) = text.split_once('\'')?;
+    Some(word)
+}
+
+/// Returns the option in the tip of an error on an unknown option, if the two have little in common.
+fn dissimilar_option_in_tip<'a>(
+    alloc: Global,
+    text: &'a str,
+) -> Result<Option<&'a str>, AllocError> {
+    let (Some(unknown), Some(known)) = (
+        quoted_word_after(text, "unexpected argument"),
+        quoted_word_after(text, "  tip: a similar argument exists:"),
+    ) else {
+        return Ok(None);
+    };
+    let near = NearestNameSoFar::without_candidates(unknown).or_nearer_candidate(
+        alloc, known, unknown,
+    )?;
+    match near.hint() {
+        Some(_) => Ok(None),
+        None => Ok(Some(known)),
+    }
+}
+
+/// The commands of the launcher, which the program does not have.
+const OF_THE_LAUNCHER: [&str; 3] = ["new", "install", "uninstall"];
+
+/// Returns a line that lists the commands of the program, without those that its help leaves out, or that says which
+/// program has the command `name`.
+fn line_on_unknown_command(alloc: Global, name: &str) -> Result<String, AllocError> {
+    for known in OF_THE_LAUNCHER {
+        if known == name {
+            return format!(in alloc;
+                "  the launcher has `{name}`, not the program itself: run ./pst or an installed pst\n\n"
+            );
+        }
+    }
+    let program = subcommands::clap_command_for_program(alloc)?;
+    let mut line = String::from_str(alloc, "  commands:")?;
+    let mut separator = " ";
+    for command in program.get_subcommands() {
+        let known = command.get_name();
+        if known != "list" {
+            write!(line, "{separator}{known}")?;
+            separator = ", ";
+        }
+    }
+    line.push_str("\n\n")?;
+    Ok(line)
+}
+
+/// Returns a line on what to do in place of the option `unknown` of `subcommand`, or an empty text.
+fn line_on_unknown_option(subcommand: &str, unknown: &str) -> &'static str {
+    match (subcommand, unknown) {
+        ("campaign", "--seconds" | "--minutes" | "--time" | "--timeout" | "--duration") => {
+            "  tip: `timeout -s INT 10 ./pst campaign ..` ends a campaign after ten seconds, with its report\n\n"
+        }
+        ("explain", "--stream" | "--max") => {
+            "  tip: cut out the line of an item: `sed -n 7p RUNS | pst explain MODEL -`\n\n"
+        }
+        _ => "",
+    }
+}
+
+/// Returns a line that helps with an error on the arguments, or an empty text. `started` are the words of the program.
+fn line_on_arguments_error(
+    alloc: Global,
+    started: &[String],
+    kind: ErrorKind,
+    text: &str,
+) -> Result<String, AllocError> {
+    match kind {
+        ErrorKind::InvalidSubcommand => {
+            let name = quoted_word_after(text, "unrecognized subcommand").unwrap_or("");
+            line_on_unknown_command(alloc, name)
+        }
+        ErrorKind::UnknownArgument => {
+            let unknown = quoted_word_after(text, "unexpected argument").unwrap_or("");
+            match started.get(1) {
+                Some(subcommand) => String::from_str(
+                    alloc,
+                    line_on_unknown_option(subcommand.as_str(), unknown),
+                ),
+                None => Ok(String::new(alloc)),
+            }
+        }
+        _ => Ok(String::new(alloc)),
+    }
+}
+
+/// Returns whether a line of an error on the arguments does not help: a tip, or a usage for it. `dissimilar` is an option
+/// that the error should not name.
+fn is_unhelpful_line(line: &str, dissimilar: Option<&str>) -> bool {
+    let names_option = match dissimilar {
+        Some(option) => line.contains(option) && !line.starts_with("error: "),
+        None => false,
+    };
+    names_option || is_tip_to_pass_option_as_value(line)
+}
+
 /// Returns what is wrong with the arguments, without tips that do not help. `started` are the words of the
 /// program.
 fn simplified_arguments_error_text(
@@ -84,11 +189,17 @@ fn simplified_arguments_error_text(
             return Ok(text);
         }
     }
+    let dissimilar = dissimilar_option_in_tip(alloc, whole.as_str())?;
+    let mut help = line_on_arguments_error(alloc, started, error.kind(), whole.as_str())?;
     let mut text = String::new(alloc);
     let mut was_empty = false;
     for line in whole.as_str().lines() {
-        let is_left_out = is_tip_to_pass_option_as_value(line) || line.is_empty() && was_empty;
+        let is_left_out = is_unhelpful_line(line, dissimilar) || line.is_empty() && was_empty;
         if !is_left_out {
+            if line.starts_with("Usage:") || line.starts_with("For more") {
+                text.push_str(help.as_str())?;
+                help.clear();
+            }
             text.push_str(line)?;
             text.push_str("\n")?;
             was_empty = line.is_empty();

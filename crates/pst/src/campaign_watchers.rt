@@ -1,15 +1,15 @@
-//! Watchers of a campaign: a line on a terminal that displays its progress, and two watchers as one.
+//! A line on a terminal that displays the progress of a campaign, and who watches the campaign for it.
 
-use crate::item_progress::DisplayedRate;
-use crate::stop_signals::EndSignal;
+use crate::item_progress::{DisplayedRate, ProgressDisplay};
+use crate::stop_signals::{SideTask, SideThread};
 use pst_campaign::{StopCondition, Watch, did_not_pass};
 use pst_ledger::Cause;
 use pst_trial::{Record, ShrinkProgress};
-use std::alloc::{AllocError, Global};
+use std::alloc::Global;
 use std::fmt;
 use std::sync::atomic::{AtomicU64, Ordering};
 use std::sync::{Arc, Wait};
-use std::thread::{Builder, JoinHandle, Threads};
+use std::thread::Threads;
 
 /// How many milliseconds pass before the line is written again.
 const PAUSE: u64 = 250;
@@ -68,15 +68,16 @@ fn candidate_or_candidates(driven: u64) -> &'static str {
 }
 
 impl CampaignProgress {
-    /// Returns the progress of a campaign of `all` trials, none of which has ended.
-    fn new(all: u64) -> CampaignProgress {
-        CampaignProgress {
+    /// Returns the progress of a campaign of `all` trials, none of which has ended. `None` if an allocation fails.
+    pub fn shared(alloc: Global, all: u64) -> Option<Arc<CampaignProgress, Global>> {
+        let progress = CampaignProgress {
             all,
             done: AtomicU64::new(0),
             failed: AtomicU64::new(0),
             lost: AtomicU64::new(0),
             shrinking: ShrinkProgress::new(),
-        }
+        };
+        Arc::new(alloc, progress).ok()
     }
 
     /// Writes the line of a campaign in which no trial has ended. Nothing is known of the rate then.
@@ -133,10 +134,9 @@ impl CampaignProgress {
             "\r\x1b[K\x1b[?7l{done} of {all} done, {failed} failed, {lost} lost, shrinking trial {trial}: {driven} {word}, {number} {unit}{left}\x1b[?7h"
         );
     }
-}
 
-impl Watch for CampaignProgress {
-    fn trial_ended(&self, ended: &Result<Record, Cause>) {
+    /// Counts a trial that has ended.
+    fn count_trial(&self, ended: &Result<Record, Cause>) {
         match ended {
             Ok(record) => {
                 self.done.fetch_add(1, Ordering::SeqCst);
@@ -149,124 +149,90 @@ impl Watch for CampaignProgress {
             }
         }
     }
+}
 
-    fn shrink_progress(&self) -> Option<&ShrinkProgress> {
-        Some(&self.shrinking)
+/// What the thread that writes the line knows.
+#[derive(Drop)]
+struct CampaignProgressLine {
+    progress: Arc<CampaignProgress, Global>,
+    last: LastTrialEnd,
+}
+
+impl SideTask for CampaignProgressLine {
+    fn pause(&self) -> u64 {
+        PAUSE
     }
 
-    fn campaign_ended(&self) {}
-}
-
-/// What the thread that writes the line shares with the campaign.
-#[derive(Drop)]
-struct DisplayedCampaignProgress {
-    progress: CampaignProgress,
-    end: EndSignal,
-}
-
-/// Writes the line again and again until the campaign is over, and takes it away then.
-fn display_campaign_progress_until_over<R: Wait + Eprint>(
-    rt: &R,
-    displayed: &DisplayedCampaignProgress,
-) {
-    let mut milliseconds = 0u64;
-    let mut last = LastTrialEnd {
-        count: 0,
-        milliseconds,
-    };
-    for _ in rt.forever() {
-        if displayed.end.wait(rt, PAUSE) {
-            break;
-        }
-        milliseconds = milliseconds.saturating_add(PAUSE);
-        let count = displayed.progress.count_of_ended_trials();
-        if count != last.count {
-            last = LastTrialEnd {
+    fn turn<R: Eprint>(&mut self, rt: &R, milliseconds: u64) {
+        let count = self.progress.count_of_ended_trials();
+        if count != self.last.count {
+            self.last = LastTrialEnd {
                 count,
                 milliseconds,
             };
         }
-        displayed
-            .progress
-            .rewrite_progress_line_on_stderr(rt, last, milliseconds);
+        self.progress
+            .rewrite_progress_line_on_stderr(rt, self.last, milliseconds);
     }
-    if milliseconds > 0 {
+
+    fn end<R: Eprint>(&self, rt: &R) {
         let _ = eprint!(rt; "\r\x1b[K");
     }
 }
 
-/// The progress of a campaign, and the thread that displays it on standard error, if there is one.
-#[derive(Drop)]
-pub struct CampaignProgressDisplay {
-    displayed: Arc<DisplayedCampaignProgress, Global>,
-    thread: Option<JoinHandle<()>>,
-}
-
-impl CampaignProgressDisplay {
-    /// Begins the progress of a campaign of `all` trials. From now on a line displays it, if there is a thread for it.
-    pub fn begin<R: Threads + Wait + Eprint + Copy + Drop + Send + 'static>(
-        rt: &R,
-        alloc: Global,
-        all: u64,
-    ) -> Result<CampaignProgressDisplay, AllocError> {
-        let displayed = DisplayedCampaignProgress {
-            progress: CampaignProgress::new(all),
-            end: EndSignal::new(),
+/// Begins the display of a progress, if there is one, and memory and a thread for it.
+pub fn begin_campaign_display<'a, R: Threads + Wait + Eprint + Copy + Drop + Send + 'static>(
+    rt: &'a R,
+    alloc: Global,
+    progress: &Option<Arc<CampaignProgress, Global>>,
+) -> ProgressDisplay<'a, R> {
+    if let Some(progress) = progress
+        && let Ok(own) = Arc::try_clone(progress)
+    {
+        let line = CampaignProgressLine {
+            progress: own,
+            last: LastTrialEnd {
+                count: 0,
+                milliseconds: 0,
+            },
         };
-        let displayed = Arc::new(alloc, displayed)?;
-        let own = Arc::try_clone(&displayed)?;
-        let rt = *rt;
-        let thread = Builder::new()
-            .spawn(&rt, move || display_campaign_progress_until_over(&rt, &own))
-            .ok();
-        Ok(CampaignProgressDisplay { displayed, thread })
+        return ProgressDisplay::of_thread(rt, SideThread::start(rt, alloc, line));
     }
-
-    /// The progress, which watches the campaign.
-    pub fn progress(&self) -> &CampaignProgress {
-        &self.displayed.progress
-    }
-
-    /// Ends the thread, and waits for it.
-    pub fn end_thread_and_wait<R: Threads + Wait>(self, rt: &R) {
-        let CampaignProgressDisplay { displayed, thread } = self;
-        displayed.end.send();
-        if let Some(thread) = thread {
-            thread.join(rt)
-        }
-    }
+    ProgressDisplay::of_thread(rt, None)
 }
 
-/// Two watchers of a campaign.
-#[derive(Clone, Copy, Drop)]
-pub struct BothWatchers<'a, J, K> {
-    pub first: &'a J,
-    pub second: &'a K,
+/// One who counts the trials of a campaign for the line that displays them, if there is one, and ends the campaign where
+/// `ending` does.
+#[derive(Drop)]
+pub struct CampaignWatch<K> {
+    pub progress: Option<Arc<CampaignProgress, Global>>,
+    pub ending: K,
 }
 
-impl<'a, J: Watch, K: Watch> Watch for BothWatchers<'a, J, K> {
+impl<K: Watch> Watch for CampaignWatch<K> {
     fn trial_ended(&self, ended: &Result<Record, Cause>) {
-        self.first.trial_ended(ended);
-        self.second.trial_ended(ended);
+        if let Some(progress) = &self.progress {
+            progress.count_trial(ended);
+        }
+        self.ending.trial_ended(ended);
     }
 
     fn shrink_progress(&self) -> Option<&ShrinkProgress> {
-        match self.first.shrink_progress() {
-            Some(shrinking) => Some(shrinking),
-            None => self.second.shrink_progress(),
+        match &self.progress {
+            Some(progress) => Some(&progress.shrinking),
+            None => None,
         }
     }
 
     fn campaign_ended(&self) {
-        self.first.campaign_ended();
-        self.second.campaign_ended();
+        self.ending.campaign_ended();
     }
 }
 
-impl<'a, J: Watch, K: StopCondition> StopCondition for BothWatchers<'a, J, K> {
-    ghost may_end = { λ b. K.may_end b.second.now };
+impl<K: StopCondition> StopCondition for CampaignWatch<K> {
+    ghost may_end = { λ watch. K.may_end watch.ending };
 
     fn is_campaign_over(&self) -> bool {
-        self.second.is_campaign_over()
+        self.ending.is_campaign_over()
     }
 }

@@ -1,25 +1,28 @@
 //! `pst campaign`.
-ghost use Rattle.std.specs.Prelude.{◌≡◌, false};
+ghost use Rattle.std.specs.Prelude.{IsSome, ◌⊎◌};
+ghost use Rattle.pst_campaign.specs.Entries.{MayGive};
+ghost use Rattle.pst.specs.Endings.{EndsWith, made};
+ghost use Rattle.pst.specs.declared.subcommands.Subcommand.TheVariants as subcommand;
+ghost use Rattle.pst_cli.specs.Answering.{Delivers, Reaches, Stands, memory_of};
+ghost use Rattle.pst_cli.specs.Commands.{IsCampaignAnswer};
 ghost use Rattle.pst_trial.specs.Settings.{AreInRange};
 
-use crate::campaign_watchers::{BothWatchers, CampaignProgressDisplay};
-use crate::page::OptionalCampaignPage;
+use crate::answering::refuse_absent;
+use crate::campaign_watchers::{CampaignProgress, CampaignWatch, begin_campaign_display};
 use crate::preparing::SubcommandContext;
+use crate::running::{SystemsResult, systems_or_absence};
 use crate::saving::FailureSaver;
+use crate::stop_signals::StopFlag;
 use crate::systems::system_name_from_arguments_or_empty;
-use crate::{diagnostics, failure_explanations, subcommands};
+use crate::{diagnostics, failure_explanations, outputs, page, subcommands};
 use clap::ArgMatches;
-use pst_campaign::{EarlyStop, StopCondition};
-use pst_cli::{
-    Absence, CampaignNotes, MEMORY_OBJECT, Status, check_with_json_output, refuse_text,
-    run_and_report_campaign_taking_notes,
-};
-use pst_rejudge::{Field, json_object_line};
-use pst_sexpr::{Out, Sink, put_all};
+use pst_campaign::{EarlyStop, Signal};
+use pst_cli::{Absence, CampaignNotes, Destinations, OutputForm, Status, report_campaign};
+use pst_sexpr::Sink;
 use pst_sources::Input;
-use pst_system::BoxedSystem;
+use pst_system::{BoxedSystem, System};
 use pst_trial::Settings;
-use std::alloc::{AllocError, Global};
+use std::alloc::AllocError;
 use std::rt::Files;
 use std::sync::Wait;
 use std::thread::Threads;
@@ -27,281 +30,112 @@ use std::thread::Threads;
 /// How a campaign is run, and what is written of it.
 #[derive(Clone, Copy, Drop)]
 struct CampaignOptions<'a> {
-    ending: &'a EarlyStop,
+    form: OutputForm,
+    /// How many trials that did not pass end the campaign, if there is a limit.
+    most: Option<u64>,
+    is_quiet: bool,
     /// Whether standard error is a terminal.
     is_terminal: bool,
-    is_json_selected: bool,
-    is_quiet: bool,
-    page: OptionalCampaignPage<'a>,
+    /// The file of the page of failures, if it is written.
+    page: Option<&'a str>,
+    /// Where failures are saved, if they are.
+    saver: Option<&'a FailureSaver<'a>>,
     input: Input<'a>,
     /// The width of lines of explanations, in bytes.
     line_width: usize,
 }
 
-impl<'a> CampaignOptions<'a> {
-    /// The options that the arguments give for a campaign on `input`.
-    fn from_context(
-        context: SubcommandContext<'a, '_>,
-        arguments: &'a ArgMatches<'_>,
-        input: Input<'a>,
-    ) -> CampaignOptions<'a> {
-        CampaignOptions {
-            ending: context.ending,
-            is_terminal: context.terminals.errors,
-            is_json_selected: subcommands::is_json_selected(arguments),
-            is_quiet: arguments.get_flag("quiet"),
-            page: OptionalCampaignPage::from_arguments(arguments, input),
-            input,
-            line_width: context.line_width,
-        }
+impl CampaignOptions<'_> {
+    /// The notes before the first trial, which keep the failures for what is written of them.
+    fn new_notes(&self) -> CampaignNotes {
+        CampaignNotes::new_with_choice_to_keep_failures(self.page.is_some(), self.saver.is_some())
     }
 }
 
-/// Runs a campaign. If standard error is a terminal, a line on it displays the progress, unless the arguments forbid it.
-fn run_campaign_with_progress_on_terminal<
+/// Runs a campaign until `signal` is given, and writes its report once it is complete. If standard error is a terminal, a
+/// line on it displays the progress, unless the options are quiet. Returns the status of the report, and that of what is
+/// written beside it.
+fn run_campaign_with_messages<
+    F: Sink,
     W: Sink,
-    R: Threads + Wait + Sync + Eprint + Copy + Drop + Send + 'static,
+    N: Signal + Sync + Drop,
+    R: Threads + Wait + Sync + Eprint + Files + AllocGlobal + Copy + Drop + Send + 'static,
 >(
     rt: &R,
-    alloc: Global,
     settings: Settings,
     systems: Vec<BoxedSystem>,
     options: CampaignOptions<'_>,
-    notes: &mut CampaignNotes,
-    out: &mut W,
-) -> Status
+    signal: N,
+    to: &mut Destinations<F, W>,
+) -> (Status, Status)
     requires ranges { AreInRange settings }
-    requires stands { W.broken out.old ≡ false }
+    requires stands { Stands F.broken W.broken to.old }
+    ensures { Reaches (memory_of options.entry.form)
+        (IsCampaignAnswer options.entry.form (IsSome options.entry.most ⊎ N.may_be_given signal)
+        (λ s. MayGive ((System-box s).answers s.value) ((System-box s).fails s.value)
+        ((System-box s).reset_fails s.value)) settings systems.items options.entry.input.bytes.now)
+        (Delivers F.taken F.broken W.taken W.broken to.old to.new result.0) }
 {
-    let (ending, input) = (options.ending, options.input.bytes);
-    if options.is_terminal && !options.is_quiet {
-        if let Ok(display) = CampaignProgressDisplay::begin(rt, alloc, settings.trials as u64) {
-            let both = BothWatchers {
-                first: display.progress(),
-                second: ending,
-            };
-            let status = run_and_report_campaign_taking_notes(
-                rt, alloc, input, settings, systems, &both, notes, out,
-            );
-            display.end_thread_and_wait(rt);
-            return status;
-        }
-    }
-    run_and_report_campaign_taking_notes(rt, alloc, input, settings, systems, ending, notes, out)
-}
-
-/// Writes the report of a campaign, or `refused memory` if it is empty. `Err`: it is not written, and the status is the
-/// one that the program ends with.
-fn write_campaign_report_or_memory_refusal<W: Sink>(
-    report: &[u8],
-    status: Status,
-    out: &mut W,
-) -> Result<Status, Status>
-    requires { W.broken out.old ≡ false }
-{
-    // A report has lines: there are none only if an allocation of the buffer failed.
-    if report.is_empty() {
-        return Err(refuse_text(Absence::NoMemory, out));
-    }
-    match put_all(report, out) {
-        Ok(()) => Ok(status),
-        Err(_) => Err(Status::Lost),
-    }
-}
-
-/// Writes the JSON object of a campaign, or that of the refusal of its model or of a failed allocation.
-fn write_campaign_or_refusal_json_object<W: Sink>(
-    alloc: Global,
-    status: Status,
-    input: &[u8],
-    report: Option<&Vec<Field>>,
-    out: &mut W,
-) -> Status
-    requires { W.broken out.old ≡ false }
-{
-    if status == Status::Refused {
-        return check_with_json_output(alloc, input, &[], out);
-    }
-    let line = match report {
-        Some(fields) => json_object_line(alloc, fields.as_slice()),
-        None => Err(AllocError),
+    let (alloc, form, input) = (rt.alloc(), options.form, options.input.bytes);
+    let progress = if options.is_terminal && !options.is_quiet {
+        CampaignProgress::shared(alloc, settings.trials as u64)
+    } else {
+        None
     };
-    match line {
-        Ok(line) => match put_all(line.as_slice(), out) {
-            Ok(()) => status,
-            Err(_) => Status::Lost,
-        },
-        Err(AllocError) => {
-            let _ = put_all(MEMORY_OBJECT, out);
-            Status::Lost
-        }
-    }
-}
-
-/// Runs a campaign, and writes its report or its JSON object once it is complete. `Err`: there is no report, and the
-/// status is the one that the program ends with.
-fn run_campaign_and_write_complete_report<
-    W: Sink,
-    R: Threads + Wait + Sync + Eprint + Copy + Drop + Send + 'static,
->(
-    rt: &R,
-    alloc: Global,
-    settings: Settings,
-    systems: Vec<BoxedSystem>,
-    options: CampaignOptions<'_>,
-    notes: &mut CampaignNotes,
-    out: &mut W,
-) -> Result<Status, Status>
-    requires ranges { AreInRange settings }
-    requires stands { W.broken out.old ≡ false }
-{
-    let input = options.input.bytes;
-    let mut report = Out::new(Vec::new(alloc));
-    let status = run_campaign_with_progress_on_terminal(
+    let mut display = begin_campaign_display(rt, alloc, &progress);
+    let watch = CampaignWatch {
+        progress,
+        ending: EarlyStop::new(options.most, signal),
+    };
+    let mut notes = options.new_notes();
+    let status = report_campaign(
         rt,
         alloc,
+        input,
         settings,
         systems,
-        options,
-        notes,
-        &mut report,
+        &watch,
+        &mut notes,
+        form,
+        &mut display,
+        to,
     );
-    if options.is_json_selected {
-        let report = notes.report.as_ref();
-        return Ok(write_campaign_or_refusal_json_object(alloc, status, input, report, out));
-    }
-    write_campaign_report_or_memory_refusal(report.into_inner().as_slice(), status, out)
+    let has_messages = !options.is_quiet && !outputs::has_output_failed(to);
+    (
+        status,
+        write_beside_report(rt, settings, options, has_messages, notes),
+    )
 }
 
-/// Writes explanations of the least failure and of the first trial without a case to standard error; without such a trial
-/// also the warnings on the model.
-fn print_campaign_explanations_and_warnings_to_stderr<R: Eprint>(
+/// Writes what is wanted beside the report of a campaign: the page; if `has_messages`, explanations of the least failure
+/// and of the first trial without a case on standard error, and without such a trial the warnings on the model; and the
+/// failures in a folder. The status is `Lost` if the page or a failure cannot be written, and else `Accepted`.
+fn write_beside_report<R: Eprint + Files + AllocGlobal>(
     rt: &R,
-    alloc: Global,
     settings: Settings,
     options: CampaignOptions<'_>,
-    notes: &mut CampaignNotes,
-)
+    has_messages: bool,
+    mut notes: CampaignNotes,
+) -> Status
     requires { AreInRange settings }
 {
+    let (alloc, width) = (rt.alloc(), options.line_width);
     let Input { files, bytes } = options.input;
-    failure_explanations::print_campaign_explanations_to_stderr(
-        rt,
-        alloc,
-        settings,
-        bytes,
-        notes,
-        options.line_width,
-    );
-    if notes.first_genfault.is_none() {
-        diagnostics::print_input_warnings_to_stderr(rt, alloc, files, bytes);
-    }
-}
-
-/// Runs a campaign and writes its report once it is complete. Unless the arguments forbid it, explanations of the least
-/// failure and of the first trial without a case follow on standard error; without such a trial also the warnings on the
-/// model.
-fn run_campaign_with_page_and_messages<
-    W: Sink,
-    R: Threads + Wait + Sync + Eprint + Files + Copy + Drop + Send + 'static,
->(
-    rt: &R,
-    alloc: Global,
-    settings: Settings,
-    systems: Vec<BoxedSystem>,
-    options: CampaignOptions<'_>,
-    notes: &mut CampaignNotes,
-    out: &mut W,
-) -> Status
-    requires ranges { AreInRange settings }
-    requires stands { W.broken out.old ≡ false }
-{
-    let (page, input) = (options.page, options.input.bytes);
-    if options.is_quiet && !options.is_json_selected {
-        let status = run_campaign_with_progress_on_terminal(
-            rt, alloc, settings, systems, options, notes, out,
-        );
-        return status.or_worse(page.write(rt, alloc, input, notes));
-    }
-    let status = match run_campaign_and_write_complete_report(
-        rt, alloc, settings, systems, options, notes, out,
-    ) {
-        Ok(status) => status,
-        Err(status) => return status,
-    };
-    let status = status.or_worse(page.write(rt, alloc, input, notes));
-    if !options.is_quiet {
-        print_campaign_explanations_and_warnings_to_stderr(rt, alloc, settings, options, notes);
-    }
-    status
-}
-
-/// Saves the failures of a campaign that has ended, if they were kept.
-fn save_campaign_failures_if_kept<R: Eprint + Files + AllocGlobal>(
-    rt: &R,
-    saving: &FailureSaver<'_>,
-    notes: &CampaignNotes,
-    is_quiet: bool,
-) -> Status {
-    match notes.saved.as_ref() {
-        Some(failures) => saving.save_failures_and_print_count(rt, failures.as_slice(), is_quiet),
+    let status = match options.page {
+        Some(name) => page::write_campaign_page(rt, name, options.input, &mut notes),
         None => Status::Accepted,
+    };
+    if has_messages {
+        failure_explanations::print_campaign_explanations_to_stderr(
+            rt, alloc, settings, bytes, &mut notes, width,
+        );
+        if notes.first_genfault.is_none() {
+            diagnostics::print_input_warnings_to_stderr(rt, alloc, files, bytes);
+        }
     }
-}
-
-/// Runs a campaign and saves its failures in a folder. The status is `Lost` too if one cannot be saved.
-fn run_campaign_and_save_failures<
-    W: Sink,
-    R: Threads + Wait + Sync + Eprint + Files + AllocGlobal + Copy + Drop + Send + 'static,
->(
-    rt: &R,
-    settings: Settings,
-    systems: Vec<BoxedSystem>,
-    saving: &FailureSaver<'_>,
-    options: CampaignOptions<'_>,
-    out: &mut W,
-) -> Status
-    requires ranges { AreInRange settings }
-    requires stands { W.broken out.old ≡ false }
-{
-    let mut notes = CampaignNotes::new_with_choice_to_keep_failures(
-        options.page.is_page_wanted(),
-        true,
-    );
-    let status = run_campaign_with_page_and_messages(
-        rt,
-        rt.alloc(),
-        settings,
-        systems,
-        options,
-        &mut notes,
-        out,
-    );
-    status.or_worse(save_campaign_failures_if_kept(rt, saving, &notes, options.is_quiet))
-}
-
-/// Runs a campaign and saves its failures, if the folder for them was made. Else returns the status that the program ends
-/// with, or refuses.
-fn run_campaign_and_save_failures_if_begun<
-    W: Sink,
-    R: Threads + Wait + Sync + Eprint + Files + AllocGlobal + Copy + Drop + Send + 'static,
->(
-    rt: &R,
-    settings: Settings,
-    systems: Vec<BoxedSystem>,
-    begun: Result<Result<FailureSaver<'_>, Status>, AllocError>,
-    options: CampaignOptions<'_>,
-    out: &mut W,
-) -> Status
-    requires ranges { AreInRange settings }
-    requires stands { W.broken out.old ≡ false }
-{
-    match begun {
-        Ok(Ok(saving)) => run_campaign_and_save_failures(
-            rt, settings, systems, &saving, options, out,
-        ),
-        Ok(Err(status)) => status,
-        Err(AllocError) => refuse_text(Absence::NoMemory, out),
+    match options.saver {
+        Some(saver) => status.or_worse(saver.save_noted_failures(rt, &notes, options.is_quiet)),
+        None => status,
     }
 }
 
@@ -309,12 +143,12 @@ fn run_campaign_and_save_failures_if_begun<
 fn print_warning_if_stop_file_exists<R: Eprint>(
     rt: &R,
     arguments: &ArgMatches<'_>,
-    ending: &EarlyStop,
+    signal: StopFlag<'_>,
 ) {
-    if let Some(name) = arguments.get_str("stop-file") {
-        if ending.is_campaign_over() {
-            let _ = eprintln!(rt; "pst: {name} is there already: no trial was begun");
-        }
+    if let Some(name) = arguments.get_str("stop-file")
+        && signal.is_given()
+    {
+        let _ = eprintln!(rt; "pst: {name} is there already: no trial was begun");
     }
 }
 
@@ -328,47 +162,59 @@ fn print_note_if_branches_lack_commands<R: Eprint>(rt: &R, settings: Settings) {
     }
 }
 
-/// Runs a campaign with a worker for each of the systems, if there are some, and saves its failures if the arguments say
-/// so. Unless the arguments forbid it, a line on standard error displays the progress, if that is a terminal, and
-/// explanations and warnings follow after the report.
+/// Runs a campaign with a worker for each of the systems, and saves its failures if the arguments say so. It refuses if the
+/// systems were not made, or there are none. Unless the arguments forbid it, a line on standard error displays the
+/// progress, if that is a terminal, and explanations and warnings follow after the report.
+#[tactic(auto, using(crate::proofs::Endings::ends_by_refusal, crate::proofs::Endings::ends_silently))]
 pub fn run_campaign_subcommand<
+    F: Sink,
     W: Sink,
     R: Threads + Wait + Sync + Eprint + Files + AllocGlobal + Copy + Drop + Send + 'static,
 >(
     rt: &R,
     context: SubcommandContext<'_, '_>,
-    arguments: &ArgMatches<'_>,
-    systems: Vec<BoxedSystem>,
+    systems: SystemsResult,
     input: Input<'_>,
-    out: &mut W,
+    to: &mut Destinations<F, W>,
 ) -> Status
-    requires { W.broken out.old ≡ false }
+    requires { Stands F.broken W.broken to.old }
+    ensures { EndsWith (λ s. (System-box s).answers s.value) (λ s. (System-box s).fails s.value)
+        (λ s. (System-box s).reset_fails s.value) (made systems) (IsSome context.entry.signal.is_set)
+        F.taken F.broken W.taken W.broken input.entry.bytes.now subcommand.Campaign to.old to.new result }
 {
+    let arguments = context.arguments;
     let name = system_name_from_arguments_or_empty(arguments);
+    let systems = match systems_or_absence(rt, arguments, name, systems) {
+        Ok(systems) => systems,
+        Err(why) => return refuse_absent(why, to),
+    };
     if systems.is_empty() {
-        return refuse_text(Absence::NoSystem(name), out);
+        return refuse_absent(Absence::NoSystem(name), to);
     }
     let Some(settings) = subcommands::campaign_settings_from_arguments(arguments) else {
         return Status::Refused;
     };
-    let options = CampaignOptions::from_context(context, arguments, input);
-    if !options.is_quiet {
-        print_warning_if_stop_file_exists(rt, arguments, context.ending);
+    let is_quiet = arguments.get_flag("quiet");
+    let signal = context.signal;
+    if !is_quiet {
+        print_warning_if_stop_file_exists(rt, arguments, signal);
         print_note_if_branches_lack_commands(rt, settings);
     }
-    if let Some(folder) = arguments.get_str("save") {
-        let begun = FailureSaver::begin_by_making_folder(
-            rt,
-            arguments,
-            folder,
-            settings.seed,
-            name,
-        );
-        return run_campaign_and_save_failures_if_begun(rt, settings, systems, begun, options, out);
-    }
-    let mut notes = CampaignNotes::new_with_choice_to_keep_failures(
-        options.page.is_page_wanted(),
-        false,
-    );
-    run_campaign_with_page_and_messages(rt, rt.alloc(), settings, systems, options, &mut notes, out)
+    let saver = match FailureSaver::begin_if_wanted(rt, arguments, settings.seed, name) {
+        Ok(Ok(saver)) => saver,
+        Ok(Err(status)) => return status,
+        Err(AllocError) => return refuse_absent(Absence::NoMemory, to),
+    };
+    let options = CampaignOptions {
+        form: subcommands::output_form_from_arguments(arguments),
+        most: arguments.get_one("max-failures"),
+        is_quiet,
+        is_terminal: context.terminals.errors,
+        page: arguments.get_str("html"),
+        saver: saver.as_ref(),
+        input,
+        line_width: context.line_width,
+    };
+    let (status, others) = run_campaign_with_messages(rt, settings, systems, options, signal, to);
+    status.or_worse(others)
 }

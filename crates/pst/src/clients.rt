@@ -2,13 +2,13 @@
 
 use crate::outputs::print_file_error_to_stderr;
 use crate::preparing::PreparedInput;
-use crate::stop_signals::{EndSignal, stop_file_name_from_arguments};
+use crate::stop_signals::{SideTask, SideThread, stop_file_name_from_arguments};
 use crate::systems::{
     ChosenSystems, SystemsError, system_in_box, systems_and_count_from_arguments,
 };
 use clap::ArgMatches;
 use pst_clients::{
-    ClientFolder, ClientWaits, Clients, Notes, open_clients, result_types_of_operations,
+    CallPipe, ClientFolder, ClientWaits, Clients, Notes, open_clients, result_types_of_operations,
 };
 use pst_typing::load;
 use pst_value::{Items, Ty};
@@ -16,7 +16,7 @@ use std::alloc::{AllocError, Global};
 use std::io::{self, BufReader, ErrorKind};
 use std::rt::Files;
 use std::sync::{Arc, Wait};
-use std::thread::{Builder, JoinHandle, Threads};
+use std::thread::Threads;
 
 /// The notes of all clients, which their boxes and the program share.
 pub type SharedClientNotes = Arc<Notes, Global>;
@@ -46,7 +46,7 @@ pub fn open_boxed_clients_for_worker<H: Wait + Files + Drop, R: Files + AllocGlo
     folder: ClientFolder<'_>,
     worker: u64,
     prepared: &PreparedInput<'_>,
-) -> Result<Box<Clients<H, BufReader<R::File>, R::File>>, SystemsError> {
+) -> Result<Box<Clients<H, BufReader<R::File>, CallPipe<R::File>>>, SystemsError> {
     let input = prepared.input_with_items_as_trees().bytes;
     let (Ok(types), Ok(notes)) = (
         operation_result_types_if_model_loads(rt.alloc(), input),
@@ -109,15 +109,6 @@ const FIRST: u64 = 5;
 
 /// The number of resets in a row that fail before a line is written of them, once.
 const MANY: u64 = 5;
-
-/// What the thread that watches clients shares with the one that ends it.
-#[derive(Drop)]
-struct WatchedClients {
-    notes: Arc<Notes, Global>,
-    /// Whether a file ends the campaign.
-    has_stop_file: bool,
-    end: EndSignal,
-}
 
 /// A client, as it was a second ago.
 #[derive(Clone, Copy, Drop)]
@@ -213,79 +204,65 @@ fn count_second_and_report_silent_clients<R: Eprint>(
     }
 }
 
-/// Checks each second which clients have not answered, until the work is over, and reports those that are silent for long.
-/// Also reports, once, that resets fail, if `MANY` failed in a row.
-fn print_client_trouble_until_over<R: Wait + Eprint>(
-    rt: &R,
-    alloc: Global,
-    watched: &WatchedClients,
-) -> Result<(), AllocError> {
-    let waits = watched.notes.waits();
-    let mut clients = new_silence_timers(alloc, waits.len())?;
-    let mut is_said = false;
-    for _ in rt.forever() {
-        if watched.end.wait(rt, PAUSE) {
-            return Ok(());
-        }
-        count_second_and_report_silent_clients(rt, alloc, waits, clients.as_mut_slice());
-        if !is_said && watched.notes.failed_resets_since_last_success() >= MANY {
-            is_said = true;
-            print_that_resets_fail(rt, watched.has_stop_file);
-        }
-    }
-    Ok(())
-}
-
-/// A thread that says which clients do not answer.
+/// What the thread that watches clients knows.
 #[derive(Drop)]
-pub struct ClientWatch {
-    watched: Arc<WatchedClients, Global>,
-    thread: JoinHandle<()>,
+struct WatchedClients {
+    alloc: Global,
+    notes: SharedClientNotes,
+    timers: Vec<SilenceTimer>,
+    /// Whether a file ends the campaign.
+    has_stop_file: bool,
+    /// Whether it has reported that resets fail.
+    has_reported_resets: bool,
 }
 
-impl ClientWatch {
-    /// Ends the thread, and waits for it.
-    pub fn end_thread_and_wait<R: Threads + Wait>(self, rt: &R) {
-        let ClientWatch { watched, thread } = self;
-        watched.end.send();
-        thread.join(rt)
+impl SideTask for WatchedClients {
+    fn pause(&self) -> u64 {
+        PAUSE
+    }
+
+    /// Reports the clients that are silent for long and, once, that resets fail, if `MANY` failed in a row.
+    fn turn<R: Eprint>(&mut self, rt: &R, _milliseconds: u64) {
+        let notes = &self.notes;
+        let timers = self.timers.as_mut_slice();
+        count_second_and_report_silent_clients(rt, self.alloc, notes.waits(), timers);
+        if !self.has_reported_resets && notes.failed_resets_since_last_success() >= MANY {
+            self.has_reported_resets = true;
+            print_that_resets_fail(rt, self.has_stop_file);
+        }
     }
 }
 
-/// What the thread that watches the clients of some notes shares, if the arguments name clients and do not forbid
+/// What the thread that watches the clients of some notes knows, if the arguments name clients and do not forbid
 /// messages.
 fn watched_clients_if_any_unless_quiet(
     alloc: Global,
     matches: &ArgMatches<'_>,
-    notes: &Arc<Notes, Global>,
-) -> Option<Arc<WatchedClients, Global>> {
+    notes: &SharedClientNotes,
+) -> Option<WatchedClients> {
     let (_, arguments) = matches.subcommand()?;
     match systems_and_count_from_arguments(matches)? {
-        (ChosenSystems::Clients(_), _) if !arguments.get_flag("quiet") => {
-            let watched = WatchedClients {
-                notes: Arc::try_clone(notes).ok()?,
-                has_stop_file: stop_file_name_from_arguments(matches).is_some(),
-                end: EndSignal::new(),
-            };
-            Arc::new(alloc, watched).ok()
-        }
+        (ChosenSystems::Clients(_), _) if !arguments.get_flag("quiet") => Some(WatchedClients {
+            alloc,
+            notes: Arc::try_clone(notes).ok()?,
+            timers: new_silence_timers(alloc, notes.waits().len()).ok()?,
+            has_stop_file: stop_file_name_from_arguments(matches).is_some(),
+            has_reported_resets: false,
+        }),
         _ => None,
     }
 }
 
 /// Watches the clients that the arguments name, if there is a thread for it, unless they name none or forbid messages.
 pub fn start_client_watch_unless_quiet<R: Threads + Wait + Eprint + Copy + Drop + Send + 'static>(
-    rt: R,
+    rt: &R,
     alloc: Global,
     matches: &ArgMatches<'_>,
-    notes: &Arc<Notes, Global>,
-) -> Option<ClientWatch> {
-    let watched = watched_clients_if_any_unless_quiet(alloc, matches, notes)?;
-    let own = Arc::try_clone(&watched).ok()?;
-    let thread = Builder::new()
-        .spawn(&rt, move || {
-            let _ = print_client_trouble_until_over(&rt, alloc, &own);
-        })
-        .ok()?;
-    Some(ClientWatch { watched, thread })
+    notes: &SharedClientNotes,
+) -> Option<SideThread> {
+    SideThread::start(
+        rt,
+        alloc,
+        watched_clients_if_any_unless_quiet(alloc, matches, notes)?,
+    )
 }

@@ -177,14 +177,18 @@ pub fn is_check_with_json_output(subcommand: &str, arguments: &ArgMatches<'_>) -
     subcommand == "check" && is_json_selected(arguments)
 }
 
-/// Returns the objects of the errors and warnings on a model, a line each. There are no lines if the arguments forbid
-/// them, or if an allocation for them fails.
-pub fn json_lines_of_notices_unless_quiet(
+/// Returns the objects of the errors and warnings on a model that are part of the output of the command that the arguments
+/// name, a line each. There are no lines for other commands than `check` with JSON output, if the arguments forbid them,
+/// or if an allocation for them fails.
+pub fn notices_in_check_output(
     alloc: Global,
-    arguments: &ArgMatches<'_>,
+    matches: &ArgMatches<'_>,
     input: &Input<'_>,
 ) -> Vec<u8> {
-    if arguments.get_flag("quiet") {
+    let Some((subcommand, arguments)) = matches.subcommand() else {
+        return Vec::new(alloc);
+    };
+    if !is_check_with_json_output(subcommand, arguments) || arguments.get_flag("quiet") {
         return Vec::new(alloc);
     }
     match json_lines_of_errors_else_warnings(alloc, input) {

@@ -1,19 +1,17 @@
 //! `pst run`, and messages on misfits, on standard error: what a system answered for each reply `misfit`.
-ghost use Rattle.std.specs.Prelude.{◌≡◌, false};
+ghost use Rattle.pst_cli.specs.Answering.{Delivers, Reaches, Stands, memory_of};
+ghost use Rattle.pst_cli.specs.Commands.{IsDriveAnswer};
 
-use crate::failure_explanations;
-use crate::item_progress::ItemProgressDisplay;
+use crate::item_progress::ProgressDisplay;
 use crate::preparing::SubcommandContext;
-use crate::subcommands::is_json_selected;
-use crate::systems::{system_in_box, system_name_from_arguments_or_empty};
+use crate::subcommands::output_form_from_arguments;
+use crate::systems::system_in_box;
+use crate::{failure_explanations, outputs};
 use clap::ArgMatches;
 use pst_case::Run;
-use pst_cli::{
-    Absence, ItemResultCounts, ProgressCounter, Status, drive_input_items_repeatedly_and_report,
-    refuse_text, run_text_with_counts_and_progress, run_with_json_output,
-};
+use pst_cli::{Destinations, DriveOptions, ItemResultCounts, Status, Unattended, drive_items};
 use pst_driver::{MisfitRecorder, Misfits, misfit_lines_text};
-use pst_sexpr::{Out, Sink, put_all};
+use pst_sexpr::Sink;
 use pst_system::{BoxedSystem, System};
 use pst_typing::load;
 use std::alloc::{AllocError, Global};
@@ -55,164 +53,56 @@ fn explain_first_broken_run_and_count_rest<R: Eprint>(
     }
 }
 
-/// How items are driven and written.
-#[derive(Clone, Copy, Drop)]
-struct DriveOptions {
-    /// How often each is driven; `None`: once, without a count of drives.
-    repeats: Option<u32>,
-    is_json_selected: bool,
-    /// Whether standard error displays the progress.
-    has_progress_line: bool,
-    /// The width of lines of explanations, in bytes.
-    line_width: usize,
-}
-
-impl DriveOptions {
-    /// The options that the arguments give.
-    fn from_context(
-        context: SubcommandContext<'_, '_>,
-        arguments: &ArgMatches<'_>,
-    ) -> DriveOptions {
-        DriveOptions {
-            repeats: arguments.get_one("repeats"),
-            is_json_selected: is_json_selected(arguments),
-            has_progress_line: context.terminals.errors,
-            line_width: context.line_width,
-        }
+/// How the arguments choose to drive items.
+pub fn drive_options_from_arguments(arguments: &ArgMatches<'_>) -> DriveOptions {
+    DriveOptions {
+        form: output_form_from_arguments(arguments),
+        repeats: arguments.get_one("repeats"),
     }
 }
 
-/// Drives each item of the input, and writes the runs and their verdicts.
-fn drive_items_and_write_report<W: Sink, R: Threads + Wait>(
-    rt: &R,
-    alloc: Global,
-    system: &mut BoxedSystem,
-    options: DriveOptions,
-    input: &[u8],
-    counts: &mut ItemResultCounts,
-    steps: &ProgressCounter,
-    out: &mut W,
-) -> Status
-    requires { W.broken out.old ≡ false }
-{
-    if options.is_json_selected {
-        return run_with_json_output(
-            rt,
-            alloc,
-            input,
-            system,
-            options.repeats,
-            counts,
-            steps,
-            out,
-        );
-    }
-    match options.repeats {
-        Some(repeats) if repeats >= 1 => {
-            drive_input_items_repeatedly_and_report(
-                rt, alloc, input, system, repeats, counts, steps, out,
-            )
-        }
-        _ => run_text_with_counts_and_progress(rt, alloc, input, system, counts, steps, out),
-    }
-}
-
-/// Drives the items of the input, and writes the report once it is complete. Then it writes to standard error what the
-/// system answered for each reply `misfit`, and why a run is broken.
-fn drive_items_with_progress_and_messages<
-    W: Sink,
-    R: Threads + Wait + Sync + Eprint + Copy + Drop + Send + 'static,
->(
-    rt: &R,
-    alloc: Global,
-    system: &mut BoxedSystem,
-    options: DriveOptions,
-    misfits: &Misfits,
-    input: &[u8],
-    counts: &mut ItemResultCounts,
-    out: &mut W,
-) -> Status
-    requires { W.broken out.old ≡ false }
-{
-    set_model_of_misfits_if_it_loads(alloc, misfits, input);
-    let Ok(telling) = ItemProgressDisplay::begin(rt, alloc, options.has_progress_line, "run") else {
-        return refuse_text(Absence::NoMemory, out);
-    };
-    let mut report = Out::new(Vec::new(alloc));
-    let steps = telling.steps();
-    let status = drive_items_and_write_report(
-        rt,
-        alloc,
-        system,
-        options,
-        input,
-        counts,
-        steps,
-        &mut report,
-    );
-    telling.end_thread_and_wait(rt);
-    let report = report.into_inner();
-    // Each status but `Accepted` has a line: the report is empty only if an allocation of the buffer failed.
-    if report.is_empty() && status != Status::Accepted {
-        return refuse_text(Absence::NoMemory, out);
-    }
-    if put_all(report.as_slice(), out).is_err() {
-        return Status::Lost;
-    }
-    print_misfits_to_stderr(rt, alloc, misfits);
-    explain_first_broken_run_and_count_rest(rt, alloc, input, counts, options.line_width);
-    status
-}
-
-/// Drives the items of the input on a system, if there is one. If there is a list of misfits, it then writes to
-/// standard error what is wrong with the runs, and displays the progress if that is a terminal.
-pub fn drive_items_on_system_or_refuse<
+/// Drives the items of the input. If there is a list of misfits, a line on standard error displays the progress if that is a
+/// terminal, and once the report is written it has what the system answered for each reply `misfit`, and why a run is
+/// broken.
+pub fn drive_with_messages<
+    F: Sink,
     W: Sink,
     R: Threads + Wait + Sync + Eprint + AllocGlobal + Copy + Drop + Send + 'static,
 >(
     rt: &R,
+    options: DriveOptions,
     context: SubcommandContext<'_, '_>,
-    arguments: &ArgMatches<'_>,
-    mut systems: Vec<BoxedSystem>,
+    system: &mut BoxedSystem,
     input: &[u8],
     counts: &mut ItemResultCounts,
-    out: &mut W,
+    to: &mut Destinations<F, W>,
 ) -> Status
-    requires { W.broken out.old ≡ false }
+    requires { Stands F.broken W.broken to.old }
+    ensures { Reaches (memory_of options.form)
+        (IsDriveAnswer options (answers system.old) (fails system.old) (reset_fails system.old) input.now)
+        (Delivers F.taken F.broken W.taken W.broken to.old to.new result) }
 {
-    let Some(mut system) = systems.pop() else {
-        let name = system_name_from_arguments_or_empty(arguments);
-        return refuse_text(Absence::NoSystem(name), out);
-    };
     let alloc = rt.alloc();
-    let options = DriveOptions::from_context(context, arguments);
-    match context.misfits {
-        Some(misfits) => {
-            drive_items_with_progress_and_messages(
-                rt,
-                alloc,
-                &mut system,
-                options,
-                misfits,
-                input,
-                counts,
-                out,
-            )
-        }
-        None => {
-            let steps = ProgressCounter::new();
-            drive_items_and_write_report(
-                rt,
-                alloc,
-                &mut system,
-                options,
-                input,
-                counts,
-                &steps,
-                out,
-            )
-        }
+    let Some(misfits) = context.misfits else {
+        return drive_items(
+            rt,
+            alloc,
+            input,
+            system,
+            options,
+            counts,
+            &mut Unattended::new(),
+            to,
+        );
+    };
+    set_model_of_misfits_if_it_loads(alloc, misfits, input);
+    let mut display = ProgressDisplay::of_items(rt, alloc, context.terminals.errors, "run");
+    let status = drive_items(rt, alloc, input, system, options, counts, &mut display, to);
+    if !outputs::has_output_failed(to) {
+        print_misfits_to_stderr(rt, alloc, misfits);
+        explain_first_broken_run_and_count_rest(rt, alloc, input, counts, context.line_width);
     }
+    status
 }
 
 /// The misfits of a system, which its box and the program share.

@@ -1,22 +1,19 @@
-//! `pst explain`: its arguments and its output.
+//! `pst explain`: its arguments.
+ghost use Rattle.std.specs.Prelude.{◌≡◌};
+ghost use Rattle.pst.specs.Answering.{HasTrials};
+ghost use Rattle.pst.specs.Endings.{subcommand_of};
+ghost use Rattle.pst.specs.declared.subcommands.Subcommand.TheVariants as subcommand;
 
-ghost use Rattle.std.specs.Prelude.{◌≡◌, false};
-
-use crate::item_progress::ItemProgressDisplay;
+use crate::answering::InputCommand;
 use crate::terminal::{self, LEAST_WIDTH, MOST_WIDTH, Terminals};
 use crate::{help, subcommands};
 use clap::builder::ValueParser;
 use clap::{Arg, ArgAction, ArgMatches, Command};
-use pst_cli::{
-    Absence, ChosenItems, ExplainOptions, ExplanationForm, Status, explain_with_progress,
-    refuse_text, write_search_graph_of_item,
-};
-use pst_sexpr::{MAX_BYTES, Out, Sink, put_all};
-use pst_sources::Input;
+use pst_cli::{ChosenItems, ExplainOptions, ExplanationForm};
+use pst_sexpr::MAX_BYTES;
+use pst_sources::SourceFile;
 use std::alloc::{AllocError, Global};
 use std::rt::Env;
-use std::sync::Wait;
-use std::thread::Threads;
 
 /// The option that gives the width of lines.
 fn line_width_option<'a>(alloc: Global) -> Arg<'a> {
@@ -168,57 +165,31 @@ fn explanation_form_from_arguments<R: Env + AllocGlobal>(
     }
 }
 
-/// Explains the chosen items, and displays the progress on standard error if `has_progress_line`.
-fn explain_items_with_optional_progress_line<
-    W: Sink,
-    R: Threads + Wait + Sync + Eprint + AllocGlobal + Copy + Drop + Send + 'static,
->(rt: &R, input: &[u8], options: ExplainOptions<'_>, has_progress_line: bool, out: &mut W) -> Status
-    requires { W.broken out.old ≡ false }
-{
-    let alloc = rt.alloc();
-    let Ok(telling) = ItemProgressDisplay::begin(rt, alloc, has_progress_line, "explained") else {
-        return refuse_text(Absence::NoMemory, out);
-    };
-    let mut text = Out::new(Vec::new(alloc));
-    let status = explain_with_progress(rt, alloc, input, options, telling.steps(), &mut text);
-    telling.end_thread_and_wait(rt);
-    let text = text.into_inner();
-    // Each status but `Accepted` has a text: there is none only if an allocation of the buffer failed.
-    if text.is_empty() && status != Status::Accepted {
-        return refuse_text(Absence::NoMemory, out);
-    }
-    match put_all(text.as_slice(), out) {
-        Ok(()) => status,
-        Err(_) => Status::Lost,
-    }
-}
-
-/// Explains the chosen items of `input`, or draws their searches if the arguments choose graphs: that of one item, unless
+/// Returns how the arguments choose to explain an input: items, or if they choose graphs the search of one item, unless
 /// `--failures` or `--max` choose several.
-pub fn run_explain_subcommand<
-    W: Sink,
-    R: Threads + Wait + Sync + Eprint + Env + AllocGlobal + Copy + Drop + Send + 'static,
->(rt: &R, arguments: &ArgMatches<'_>, terminals: Terminals, input: Input<'_>, out: &mut W) -> Status
-    requires { W.broken out.old ≡ false }
+pub fn explain_command_from_arguments<'a, R: Env + AllocGlobal>(
+    rt: &R,
+    arguments: &ArgMatches<'_>,
+    terminals: Terminals,
+    files: &'a [SourceFile<'a>],
+) -> InputCommand<'a>
+    ensures trials { HasTrials result }
+    ensures subcommand { subcommand_of result ≡ subcommand.Explain }
 {
-    let Input { files, bytes } = input;
     let is_one = !arguments.get_flag("failures") && arguments.get_str("max").is_none();
     if is_dot_graph_selected(arguments) && is_one {
-        return write_search_graph_of_item(
-            rt,
-            rt.alloc(),
-            bytes,
-            item_number_from_arguments(arguments),
-            arguments.get_flag("all"),
-            out,
-        );
+        return InputCommand::Draw {
+            item: item_number_from_arguments(arguments),
+            is_whole: arguments.get_flag("all"),
+        };
     }
-    let options = ExplainOptions {
-        files,
-        chosen: items_to_explain_from_arguments(arguments),
-        most: max_items_from_arguments_or_unlimited(arguments),
-        form: explanation_form_from_arguments(rt, arguments, terminals.output),
-    };
-    let has_progress_line = terminals.errors && !arguments.get_flag("quiet");
-    explain_items_with_optional_progress_line(rt, bytes, options, has_progress_line, out)
+    InputCommand::Explain {
+        options: ExplainOptions {
+            files,
+            chosen: items_to_explain_from_arguments(arguments),
+            most: max_items_from_arguments_or_unlimited(arguments),
+            form: explanation_form_from_arguments(rt, arguments, terminals.output),
+        },
+        has_progress_line: terminals.errors && !arguments.get_flag("quiet"),
+    }
 }

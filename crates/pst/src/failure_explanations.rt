@@ -3,9 +3,9 @@
 ghost use Rattle.pst_trial.specs.Settings.{AreInRange};
 
 use pst_case::{Case, Command, History, Reply};
-use pst_cli::{CampaignNotes, compile_model_and_explain_failed_run};
+use pst_cli::{CampaignNotes, LostTrials, compile_model_and_explain_failed_run};
 use pst_driver::has_only_value_replies;
-use pst_messages::explanation_why_trial_has_no_case;
+use pst_messages::{explanation_why_trial_has_no_case, model_beginning_after_call};
 use pst_trial::Settings;
 use pst_value::Items;
 use std::alloc::{AllocError, Global};
@@ -30,6 +30,24 @@ fn print_why_trial_has_no_case<R: Eprint>(
     if let Ok(Some(text)) = text {
         let _ = eprint!(rt; "trial {number} has no case:\n{text}");
     }
+}
+
+/// Writes how many trials were lost for a cause, and the numbers of the first.
+fn print_lost_trials<R: Eprint>(rt: &R, lost: &LostTrials) {
+    let (count, cause) = (lost.count, lost.cause.name());
+    let trials = if count == 1 {
+        "trial was"
+    } else {
+        "trials were"
+    };
+    let _ = eprint!(rt; "pst: {count} {trials} lost ({cause}):");
+    let mut before = " ";
+    for number in &lost.first {
+        let _ = eprint!(rt; "{before}{number}");
+        before = ", ";
+    }
+    let rest = if count > lost.first.len() { ", .." } else { "" };
+    let _ = eprintln!(rt; "{rest}");
 }
 
 /// Writes to standard error why no interleaving explains the least failure of a campaign, if it has a failure; the
@@ -62,6 +80,11 @@ pub fn print_campaign_explanations_to_stderr<R: Eprint>(
     if let Some(number) = notes.first_genfault {
         print_why_trial_has_no_case(rt, alloc, settings, input, number);
     }
+    if let Some(causes) = &notes.lost {
+        for lost in causes {
+            print_lost_trials(rt, lost);
+        }
+    }
 }
 
 /// The words of an explanation of one wrong answer.
@@ -71,6 +94,14 @@ const ONE_WRONG: &str = "This answer cannot be right";
 const NOTE: &str = "  The first call is already wrong in the initial state of the model. Are `init`
   and the postcondition right? Does reset restore that state? Has each worker
   (PST_WORKER) a system of its own?
+";
+
+/// The note on a wrong answer that is right in the state after the call.
+const LATER_STATE_NOTE: &str =
+    "  The first call is already wrong in the initial state of the model. Are `init`
+  and the postcondition right? Does reset restore that state? Has each worker
+  (PST_WORKER) a system of its own? In the state after the call the postcondition
+  is true of this answer: `post` sees the state before the call.
 ";
 
 /// The note on a run in which no two calls were made at the same time.
@@ -162,6 +193,27 @@ fn note_if_explanation_finds_call_wrong(text: &str) -> &'static str {
     }
 }
 
+/// Returns whether the postcondition of `command` is true of `reply` in the state after the call.
+fn is_reply_right_after_call(
+    alloc: Global,
+    input: &[u8],
+    command: &Command,
+    reply: &Reply,
+) -> Result<bool, AllocError> {
+    let Some(model) = model_beginning_after_call(alloc, input, command)? else {
+        return Ok(false);
+    };
+    let (case, history) = case_and_history_of_one_command(alloc, command, reply)?;
+    let explanation = compile_model_and_explain_failed_run(
+        alloc,
+        model.as_slice(),
+        case,
+        history,
+        usize::MAX,
+    )?;
+    Ok(explanation.is_none())
+}
+
 /// Returns the note on the first call of a run, in the initial state of the model. It is empty if the call is
 /// right there.
 fn note_if_first_call_is_wrong(
@@ -174,12 +226,24 @@ fn note_if_first_call_is_wrong(
         return Ok("");
     };
     let (case, history) = case_and_history_of_one_command(alloc, command, reply)?;
-    match compile_model_and_explain_failed_run(alloc, input, case, history, usize::MAX)? {
+    let explanation = compile_model_and_explain_failed_run(
+        alloc,
+        input,
+        case,
+        history,
+        usize::MAX,
+    )?;
+    let note = match &explanation {
         Some(text) => match std::str::from_utf8(text.as_slice()) {
-            Ok(text) => Ok(note_if_explanation_finds_call_wrong(text)),
-            Err(_) => Ok(""),
+            Ok(text) => note_if_explanation_finds_call_wrong(text),
+            Err(_) => "",
         },
-        None => Ok(""),
+        None => "",
+    };
+    if note == NOTE && is_reply_right_after_call(alloc, input, command, reply)? {
+        Ok(LATER_STATE_NOTE)
+    } else {
+        Ok(note)
     }
 }
 

@@ -1,14 +1,13 @@
 //! The commands that rewrite files: `pst fmt` in one layout, `pst convert` in the form of JSON or trees.
-ghost use Rattle.std.specs.Prelude.{◌≡◌, false};
 
 use crate::input::{self, InputOptions, STANDARD_INPUT};
 use crate::{diagnostics, help, json_items, outputs, subcommands};
 use clap::builder::ValueParser;
 use clap::{Arg, ArgAction, ArgMatches, Command};
-use pst_cli::{ItemForm, Status, convert_text, refuse_text};
+use pst_cli::{ItemForm, Status, refuse_text};
 use pst_messages::{MessageScope, input_error_messages_text};
 use pst_print::format_file;
-use pst_sexpr::{FaultKind, MAX_BYTES, Out, SexprFault, Sink, read};
+use pst_sexpr::{FaultKind, MAX_BYTES, Out, SexprFault, read};
 use pst_sources::SourceFile;
 use pst_typing::Refusal;
 use std::alloc::{AllocError, Global};
@@ -226,21 +225,10 @@ fn keep_or_refuse_file_with_json_items<R: Runtime + AllocGlobal>(
     let Ok(text) = json_blanked_text_or_malformed_beginning(alloc, file.bytes.as_slice()) else {
         return diagnostics::print_memory_refusal(rt);
     };
-    if let Err(fault) = read(alloc, text.as_slice()) {
-        let mut files = Vec::new(alloc);
-        let Ok(bytes) = Vec::from_slice(alloc, text.as_slice()) else {
-            return diagnostics::print_memory_refusal(rt);
-        };
-        if files.push(SourceFile { name, bytes }).is_err() {
-            return diagnostics::print_memory_refusal(rt);
-        }
-        return print_refusal_of_malformed_file(
-            rt,
-            files.as_slice(),
-            text.as_slice(),
-            fault,
-            options,
-        );
+    let files = [SourceFile { name, bytes: text }];
+    let trees = files[0].bytes.as_slice();
+    if let Err(fault) = read(alloc, trees) {
+        return print_refusal_of_malformed_file(rt, &files, trees, fault, options);
     }
     if !options.reading.is_quiet {
         let _ = eprintln!(rt; "pst: there are items as JSON in {name}, so it stays as it is");
@@ -332,19 +320,11 @@ pub fn clap_command_for_convert<'a>(alloc: Global) -> Result<Command<'a>, AllocE
         .arg(subcommands::quiet_option(alloc))
 }
 
-/// Writes the items of the input in the form that the arguments select.
-pub fn run_convert_subcommand<W: Sink>(
-    alloc: Global,
-    arguments: &ArgMatches<'_>,
-    input: &[u8],
-    out: &mut W,
-) -> Status
-    requires { W.broken out.old ≡ false }
-{
-    let form = if arguments.get_str("to") == Some("trees") {
+/// Returns the form of items that the arguments of `convert` select.
+pub fn item_form_from_arguments(arguments: &ArgMatches<'_>) -> ItemForm {
+    if arguments.get_str("to") == Some("trees") {
         ItemForm::Trees
     } else {
         ItemForm::Json
-    };
-    convert_text(alloc, input, form, out)
+    }
 }

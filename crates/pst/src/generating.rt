@@ -1,11 +1,13 @@
 //! `pst generate`.
-ghost use Rattle.std.specs.Prelude.{◌≡◌, false};
+ghost use Rattle.std.specs.Prelude.{◌≡◌, IfSome};
+ghost use Rattle.pst.specs.Answering.{HasTrials};
+ghost use Rattle.pst.specs.Endings.{subcommand_of};
+ghost use Rattle.pst.specs.declared.subcommands.Subcommand.TheVariants as subcommand;
 
+use crate::answering::InputCommand;
 use crate::subcommands;
 use clap::ArgMatches;
-use pst_cli::{ItemForm, Status, generate_and_write_cases_of_input};
-use pst_sexpr::Sink;
-use std::thread::Threads;
+use pst_cli::{ItemForm, Status};
 
 /// Returns the form of cases that the arguments choose.
 fn case_form_from_arguments(arguments: &ArgMatches<'_>) -> ItemForm {
@@ -39,23 +41,18 @@ pub fn refuse_generate_trial_numbers_that_overflow<R: Eprint>(
     Err(Status::Refused)
 }
 
-/// Writes the cases of the trials that the arguments choose. It leaves out trials whose numbers do not fit 64 bits.
-pub fn run_generate_subcommand<W: Sink, R: Threads + Sync + AllocGlobal>(
-    rt: &R,
-    arguments: &ArgMatches<'_>,
-    input: &[u8],
-    out: &mut W,
-) -> Status
-    requires { W.broken out.old ≡ false }
+/// Returns which cases the arguments choose, without those of trials whose numbers do not fit 64 bits.
+pub fn generate_command_from_arguments(arguments: &ArgMatches<'_>) -> Option<InputCommand<'static>>
+    ensures trials { IfSome result HasTrials }
+    ensures subcommand { IfSome result (λ command. subcommand_of command ≡ subcommand.Generate) }
 {
-    let (Some(settings), Some(first), Some(trials)) = (
-        subcommands::settings_for_generate_from_arguments(arguments),
-        arguments.get_one::<u64>("first"),
-        arguments.get_one::<u64>("trials"),
-    ) else {
-        return Status::Refused;
-    };
-    let count = trials.min(u64::MAX - first);
-    let form = case_form_from_arguments(arguments);
-    generate_and_write_cases_of_input(rt, rt.alloc(), input, form, settings, first, count, out)
+    let settings = subcommands::settings_for_generate_from_arguments(arguments)?;
+    let first: u64 = arguments.get_one("first")?;
+    let trials: u64 = arguments.get_one("trials")?;
+    Some(InputCommand::Generate {
+        form: case_form_from_arguments(arguments),
+        settings,
+        first,
+        count: trials.min(u64::MAX - first),
+    })
 }

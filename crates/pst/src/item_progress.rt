@@ -1,23 +1,14 @@
 //! A line on a terminal that says how far a command is.
 
-use crate::stop_signals::EndSignal;
+use crate::stop_signals::{SideTask, SideThread};
 use crate::summary::add_number_with_thousands_commas;
-use pst_cli::ProgressCounter;
+use pst_cli::{Attendant, ProgressCounter};
 use std::alloc::{AllocError, Global};
 use std::sync::{Arc, Wait};
-use std::thread::{Builder, JoinHandle, Threads};
+use std::thread::Threads;
 
 /// How many milliseconds pass before the line is written again.
 const PAUSE: u64 = 250;
-
-/// What the thread that writes the line shares with the one that does the work.
-#[derive(Drop)]
-struct DisplayedItemProgress {
-    steps: ProgressCounter,
-    /// What is done with an item, as `explained`.
-    participle: &'static str,
-    end: EndSignal,
-}
 
 /// How fast something goes: how many a second, or how many seconds each one takes.
 #[derive(Clone, Copy, Drop)]
@@ -110,82 +101,94 @@ fn item_progress_line(
     Ok(line)
 }
 
-/// Writes the line again and again until the work is over, and takes it away then.
-fn display_item_progress_until_over<R: Wait + Eprint>(
-    rt: &R,
+/// What the thread that writes the line knows.
+#[derive(Drop)]
+struct ItemProgressLine {
     alloc: Global,
-    displayed: &DisplayedItemProgress,
-) {
-    let mut milliseconds = 0u64;
-    for _ in rt.forever() {
-        if displayed.end.wait(rt, PAUSE) {
-            break;
-        }
-        milliseconds = milliseconds.saturating_add(PAUSE);
+    steps: Arc<ProgressCounter, Global>,
+    /// What is done with an item, as `explained`.
+    participle: &'static str,
+}
+
+impl SideTask for ItemProgressLine {
+    fn pause(&self) -> u64 {
+        PAUSE
+    }
+
+    fn turn<R: Eprint>(&mut self, rt: &R, milliseconds: u64) {
         if let Ok(line) = item_progress_line(
-            alloc,
-            &displayed.steps,
-            displayed.participle,
+            self.alloc,
+            &self.steps,
+            self.participle,
             milliseconds,
         ) {
             let _ = eprint!(rt; "\r\x1b[K{line}");
         }
     }
-    if milliseconds > 0 {
+
+    fn end<R: Eprint>(&self, rt: &R) {
         let _ = eprint!(rt; "\r\x1b[K");
     }
 }
 
-/// The steps of a command, and the thread that displays how many are done, if there is one.
+/// One who displays on standard error how far a command is, if that is wanted. Its handle cannot print on standard output.
 #[derive(Drop)]
-pub struct ItemProgressDisplay {
-    displayed: Arc<DisplayedItemProgress, Global>,
-    thread: Option<JoinHandle<()>>,
+pub struct ProgressDisplay<'a, R> {
+    rt: &'a R,
+    thread: Option<SideThread>,
+    /// The steps that the thread displays, if it displays steps.
+    displayed: Option<Arc<ProgressCounter, Global>>,
+    /// The steps that are not displayed.
+    steps: ProgressCounter,
 }
 
-impl ItemProgressDisplay {
-    /// Begins the steps of a command. `participle` is what is done with an item, as `explained`. From now on a line displays the
-    /// steps, if it is wanted and there is a thread for it.
-    pub fn begin<R: Threads + Wait + Eprint + Copy + Drop + Send + 'static>(
-        rt: &R,
+impl<'a, R: Threads + Wait + Eprint + Copy + Drop + Send + 'static> ProgressDisplay<'a, R> {
+    /// Displays what a thread displays, if there is one, and no steps.
+    pub fn of_thread(rt: &'a R, thread: Option<SideThread>) -> ProgressDisplay<'a, R> {
+        ProgressDisplay {
+            rt,
+            thread,
+            displayed: None,
+            steps: ProgressCounter::new(),
+        }
+    }
+
+    /// Begins the steps of a command. `participle` is what is done with an item, as `explained`. From now on a line displays
+    /// the steps, if `has_progress_line`, and if there is memory and a thread for it.
+    pub fn of_items(
+        rt: &'a R,
         alloc: Global,
         has_progress_line: bool,
         participle: &'static str,
-    ) -> Result<ItemProgressDisplay, AllocError> {
-        let displayed = DisplayedItemProgress {
-            steps: ProgressCounter::new(),
-            participle,
-            end: EndSignal::new(),
-        };
-        let displayed = Arc::new(alloc, displayed)?;
-        if !has_progress_line {
-            return Ok(ItemProgressDisplay {
-                displayed,
-                thread: None,
-            });
+    ) -> ProgressDisplay<'a, R> {
+        let mut display = ProgressDisplay::of_thread(rt, None);
+        if has_progress_line
+            && let Ok(steps) = Arc::new(alloc, ProgressCounter::new())
+            && let Ok(own) = Arc::try_clone(&steps)
+        {
+            let line = ItemProgressLine {
+                alloc,
+                steps: own,
+                participle,
+            };
+            display.thread = SideThread::start(rt, alloc, line);
+            display.displayed = Some(steps);
         }
-        let own = Arc::try_clone(&displayed)?;
-        let rt = *rt;
-        let thread = Builder::new()
-            .spawn(
-                &rt,
-                move || display_item_progress_until_over(&rt, alloc, &own),
-            )
-            .ok();
-        Ok(ItemProgressDisplay { displayed, thread })
+        display
+    }
+}
+
+impl<R: Threads + Wait> Attendant for ProgressDisplay<'_, R> {
+    fn steps(&self) -> &ProgressCounter {
+        match &self.displayed {
+            Some(steps) => steps,
+            None => &self.steps,
+        }
     }
 
-    /// The steps.
-    pub fn steps(&self) -> &ProgressCounter {
-        &self.displayed.steps
-    }
-
-    /// Ends the thread, and waits for it.
-    pub fn end_thread_and_wait<R: Threads + Wait>(self, rt: &R) {
-        let ItemProgressDisplay { displayed, thread } = self;
-        displayed.end.send();
-        if let Some(thread) = thread {
-            thread.join(rt)
+    fn before_output(&mut self) {
+        if let Some(thread) = self.thread.take() {
+            thread.end_and_wait(self.rt);
         }
     }
 }

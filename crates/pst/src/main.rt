@@ -1,6 +1,7 @@
 //! The program: its arguments, its input, and one call of `pst_cli`.
 #![tactic(auto)]
 
+mod answering;
 mod arguments;
 mod campaign_watchers;
 mod campaigning;

@@ -1,8 +1,8 @@
 //! The files that the program writes, and the messages on those that it cannot write.
 
 use crate::input::STANDARD_INPUT;
-use pst_cli::{Absence, Status, refuse_text};
-use pst_sexpr::Out;
+use pst_cli::{Absence, Destinations, Status, refuse_text};
+use pst_sexpr::{Out, Sink};
 use std::alloc::{AllocError, Global};
 use std::fs::canonicalize;
 use std::io::{self, ErrorKind, Write};
@@ -24,13 +24,16 @@ impl<W: Write> WriteErrorKeeper<W> {
         }
     }
 
-    /// Returns the last error of the writer, if it had one.
-    pub fn last_error(&self) -> Option<io::Error> {
-        self.failure
+    /// Returns the writer, and its last error if it had one.
+    pub fn into_parts(self) -> (W, Option<io::Error>) {
+        let WriteErrorKeeper { writer, failure } = self;
+        (writer, failure)
     }
 }
 
 impl<W: Write> Write for WriteErrorKeeper<W> {
+    ghost contents = { λ keeper. W.contents keeper.writer };
+
     fn write(&mut self, buf: &[u8]) -> io::Result<usize> {
         match self.writer.write(buf) {
             Ok(count) => Ok(count),
@@ -49,6 +52,14 @@ impl<W: Write> Write for WriteErrorKeeper<W> {
                 Err(error)
             }
         }
+    }
+}
+
+/// Returns whether the file for results or the output has failed.
+pub fn has_output_failed<F: Sink, W: Sink>(to: &Destinations<F, W>) -> bool {
+    match &to.file {
+        Some(file) => file.has_failed() || to.out.has_failed(),
+        None => to.out.has_failed(),
     }
 }
 

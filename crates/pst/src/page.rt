@@ -4,7 +4,7 @@ use crate::input::STANDARD_INPUT;
 use crate::outputs::print_why_file_was_not_written;
 use clap::{Arg, ArgMatches};
 use pst_cli::{CampaignNotes, Status, campaign_failures_html_page};
-use pst_sources::{Input, SourceFile};
+use pst_sources::Input;
 use std::alloc::Global;
 use std::fs::{File, OpenOptions, metadata, remove_file};
 use std::io::{self, ErrorKind};
@@ -21,15 +21,6 @@ pub fn html_option<'a>(alloc: Global) -> Arg<'a> {
 pub fn html_file_name_from_arguments<'a>(matches: &ArgMatches<'a>) -> Option<&'a str> {
     let (_, arguments) = matches.subcommand()?;
     arguments.get_str("html")
-}
-
-/// The page that the arguments of a campaign choose.
-#[derive(Clone, Copy, Drop)]
-pub struct OptionalCampaignPage<'a> {
-    /// The name of its file; `None`: no page is written.
-    name: Option<&'a str>,
-    /// The files of the input.
-    files: &'a [SourceFile<'a>],
 }
 
 /// Opens the file `name` to write it and leaves it as it is, or makes it and removes it if it is not there.
@@ -72,49 +63,30 @@ pub fn refuse_unwritable_html_page<R: Files + Eprint + AllocGlobal>(
     }
 }
 
-impl<'a> OptionalCampaignPage<'a> {
-    /// The page that the arguments choose.
-    pub fn from_arguments(
-        arguments: &'a ArgMatches<'_>,
-        input: Input<'a>,
-    ) -> OptionalCampaignPage<'a> {
-        let Input { files, bytes: _ } = input;
-        OptionalCampaignPage {
-            name: arguments.get_str("html"),
-            files,
-        }
-    }
-
-    /// Whether a page is written.
-    pub fn is_page_wanted(self) -> bool {
-        self.name.is_some()
-    }
-
-    /// Writes the page, if there is one and the campaign began, and takes its failures from the notes. `Lost`: it cannot be
-    /// written.
-    pub fn write<R: Files + Eprint>(
-        self,
-        rt: &R,
-        alloc: Global,
-        input: &[u8],
-        notes: &mut CampaignNotes,
-    ) -> Status {
-        let (Some(name), Some(failures)) = (self.name, notes.explained.take()) else {
-            return Status::Accepted;
-        };
-        let Ok(page) = campaign_failures_html_page(alloc, self.files, input, failures) else {
-            let _ = eprintln!(rt; "pst: cannot write {name}: memory allocation failed");
-            return Status::Lost;
-        };
-        let Some(page) = page else {
-            return Status::Accepted;
-        };
-        match std::fs::write(rt, name, page.as_slice()) {
-            Ok(()) => Status::Accepted,
-            Err(error) => {
-                print_why_file_was_not_written(rt, alloc, name, &error);
-                Status::Lost
-            }
+/// Writes the file `name` of the page of a campaign on `input`, if it began, and takes its failures from the notes. The status is
+/// `Lost` if the file cannot be written, and else `Accepted`.
+pub fn write_campaign_page<R: Files + Eprint + AllocGlobal>(
+    rt: &R,
+    name: &str,
+    input: Input<'_>,
+    notes: &mut CampaignNotes,
+) -> Status {
+    let alloc = rt.alloc();
+    let Some(failures) = notes.explained.take() else {
+        return Status::Accepted;
+    };
+    let Ok(page) = campaign_failures_html_page(alloc, input.files, input.bytes, failures) else {
+        let _ = eprintln!(rt; "pst: cannot write {name}: memory allocation failed");
+        return Status::Lost;
+    };
+    let Some(page) = page else {
+        return Status::Accepted;
+    };
+    match std::fs::write(rt, name, page.as_slice()) {
+        Ok(()) => Status::Accepted,
+        Err(error) => {
+            print_why_file_was_not_written(rt, alloc, name, &error);
+            Status::Lost
         }
     }
 }

@@ -3,13 +3,14 @@
 use crate::clients::{SharedClientNotes, new_client_notes};
 use crate::driving::{SharedMisfits, new_misfit_list_for_run_unless_quiet};
 use crate::input::{InputOptions, STANDARD_INPUT};
+use crate::stop_signals::StopFlag;
+use crate::subcommands::Subcommand;
 use crate::terminal::Terminals;
 use crate::{
     diagnostics, formatting, generating, input, json_items, outputs, page, saving, streaming,
     systems,
 };
 use clap::ArgMatches;
-use pst_campaign::EarlyStop;
 use pst_cli::{Status, refuse_text};
 use pst_driver::Misfits;
 use pst_sexpr::Out;
@@ -21,7 +22,10 @@ use std::rt::Runtime;
 /// The input of a command, the notes of its clients, and the misfits of its systems.
 #[derive(Drop)]
 pub struct PreparedInput<'a> {
-    files: InputFiles<'a>,
+    /// The files as they were read.
+    pub read: Vec<SourceFile<'a>>,
+    /// The files with a tree in place of each JSON item, if there is one.
+    trees: Option<Vec<SourceFile<'a>>>,
     /// The text of the files, with a tree in place of each JSON item.
     text: Vec<u8>,
     /// The notes of all clients.
@@ -31,48 +35,38 @@ pub struct PreparedInput<'a> {
 }
 
 impl<'a> PreparedInput<'a> {
-    /// The files as they were read.
-    pub fn source_files_as_read(&self) -> &[SourceFile<'a>] {
-        self.files.files_as_read()
+    /// Returns the files with their text, and with empty lists of notes and misfits.
+    fn from_files(
+        alloc: Global,
+        matches: &ArgMatches<'_>,
+        read: Vec<SourceFile<'a>>,
+    ) -> Result<PreparedInput<'a>, AllocError> {
+        let trees = json_items::source_files_with_json_replaced_or_removed(alloc, read.as_slice())?;
+        let text = match &trees {
+            Some(trees) => joined_text_of_files(alloc, trees.as_slice())?,
+            None => joined_text_of_files(alloc, read.as_slice())?,
+        };
+        let notes = new_client_notes(alloc)?;
+        let misfits = new_misfit_list_for_run_unless_quiet(alloc, matches);
+        Ok(PreparedInput {
+            read,
+            trees,
+            text,
+            notes,
+            misfits,
+        })
     }
 
     /// The input with a tree in place of each JSON item.
     pub fn input_with_items_as_trees(&self) -> Input<'_> {
+        let files = match &self.trees {
+            Some(trees) => trees.as_slice(),
+            None => self.read.as_slice(),
+        };
         Input {
-            files: self.files.files_with_items_as_trees(),
+            files,
             bytes: self.text.as_slice(),
         }
-    }
-}
-
-/// Returns the files with their text, and with empty lists of notes and misfits.
-fn prepared_input_from_files<'a>(
-    alloc: Global,
-    matches: &ArgMatches<'_>,
-    files: InputFiles<'a>,
-) -> Result<PreparedInput<'a>, AllocError> {
-    let text = joined_text_of_files(alloc, files.files_with_items_as_trees())?;
-    let notes = new_client_notes(alloc)?;
-    let misfits = new_misfit_list_for_run_unless_quiet(alloc, matches);
-    Ok(PreparedInput {
-        files,
-        text,
-        notes,
-        misfits,
-    })
-}
-
-/// Reads the files that the arguments name, and prepares their input. If that fails, or the arguments are refused, or
-/// files are only laid out, the error is the status that the program ends with.
-pub fn prepare_input_or_run_fmt<'a, R: Runtime + AllocGlobal>(
-    rt: &R,
-    matches: &'a ArgMatches<'_>,
-    terminals: Terminals,
-) -> Result<PreparedInput<'a>, Status> {
-    let files = check_and_read_input_or_run_fmt(rt, matches, terminals)?;
-    match prepared_input_from_files(rt.alloc(), matches, files) {
-        Ok(prepared) => Ok(prepared),
-        Err(AllocError) => Err(diagnostics::print_memory_refusal(rt)),
     }
 }
 
@@ -119,56 +113,25 @@ fn refuse_invalid_arguments<R: Runtime + AllocGlobal>(
     if streaming::is_item_stream_selected(matches) && !streaming::is_model_file_alone(inputs) {
         return Err(streaming::refuse_stream_with_wrong_files(rt, inputs, is_quiet, &mut out));
     }
-    outputs::refuse_to_overwrite_input(
-        rt,
-        inputs,
-        "-o",
-        output_file_name_from_arguments(matches),
-        is_quiet,
-    )?;
-    outputs::refuse_to_overwrite_input(
-        rt,
-        inputs,
-        "--html",
-        page::html_file_name_from_arguments(matches),
-        is_quiet,
-    )?;
+    let written = [
+        ("-o", output_file_name_from_arguments(matches)),
+        ("--html", page::html_file_name_from_arguments(matches)),
+    ];
+    for (option, name) in written {
+        outputs::refuse_to_overwrite_input(rt, inputs, option, name, is_quiet)?;
+    }
     saving::refuse_file_as_save_folder(rt, matches)?;
     generating::refuse_generate_trial_numbers_that_overflow(rt, matches)?;
     page::refuse_unwritable_html_page(rt, matches)
 }
 
-/// The files of the input.
-#[derive(Drop)]
-pub struct InputFiles<'a> {
-    /// The files as they were read.
-    read: Vec<SourceFile<'a>>,
-    /// The files with a tree in place of each JSON item, if there is one.
-    trees: Option<Vec<SourceFile<'a>>>,
-}
-
-impl<'a> InputFiles<'a> {
-    /// The files as they were read.
-    pub fn files_as_read(&self) -> &[SourceFile<'a>] {
-        self.read.as_slice()
-    }
-
-    /// The files with a tree in place of each JSON item.
-    pub fn files_with_items_as_trees(&self) -> &[SourceFile<'a>] {
-        match &self.trees {
-            Some(trees) => trees.as_slice(),
-            None => self.read.as_slice(),
-        }
-    }
-}
-
-/// Reads the files that the arguments name. If that fails, or the arguments are refused, or files are only laid out, the
-/// error is the status that the program ends with.
-fn check_and_read_input_or_run_fmt<'a, R: Runtime + AllocGlobal>(
+/// Reads the files that the arguments name, and prepares their input. If that fails, or the arguments are refused, or
+/// files are only laid out, the error is the status that the program ends with.
+pub fn prepare_input_or_run_fmt<'a, R: Runtime + AllocGlobal>(
     rt: &R,
     matches: &'a ArgMatches<'_>,
     terminals: Terminals,
-) -> Result<InputFiles<'a>, Status> {
+) -> Result<PreparedInput<'a>, Status> {
     refuse_invalid_arguments(rt, matches)?;
     let reading = InputOptions {
         is_quiet: is_quiet_selected(matches),
@@ -177,43 +140,33 @@ fn check_and_read_input_or_run_fmt<'a, R: Runtime + AllocGlobal>(
     if let Some(("fmt", arguments)) = matches.subcommand() {
         return Err(formatting::run_fmt_subcommand(rt, arguments, reading));
     }
-    let read = match input::read_files_or_standard_input(
-        rt,
-        input_file_names_from_arguments(matches),
-        reading,
-    ) {
+    let names = input_file_names_from_arguments(matches);
+    let read = match input::read_files_or_standard_input(rt, names, reading) {
         Ok(read) => read,
         Err(why) => return Err(refuse_text(why, &mut Out::new(io::writer(rt)))),
     };
-    match json_items::source_files_with_json_replaced_or_removed(rt.alloc(), read.as_slice()) {
-        Ok(trees) => Ok(InputFiles { read, trees }),
-        Err(_) => Err(diagnostics::print_memory_refusal(rt)),
+    match PreparedInput::from_files(rt.alloc(), matches, read) {
+        Ok(prepared) => Ok(prepared),
+        Err(AllocError) => Err(diagnostics::print_memory_refusal(rt)),
     }
 }
 
 /// What a subcommand works on.
 #[derive(Clone, Copy, Drop)]
 pub struct SubcommandContext<'a, 'm> {
+    pub subcommand: Subcommand,
     /// The arguments of the program.
     pub matches: &'a ArgMatches<'m>,
+    /// The arguments of the subcommand.
+    pub arguments: &'a ArgMatches<'m>,
     /// The files of the input as they were read, with their JSON items.
     pub files: &'a [SourceFile<'a>],
     /// The list of answers of a wrong type, if it is kept. The threads that drive cases share it.
     pub misfits: Option<&'a Misfits>,
-    /// When a campaign ends before all its trials have run. The threads that drive cases share it.
-    pub ending: &'a EarlyStop,
+    /// The signal that ends a campaign. The threads that drive cases share it.
+    pub signal: StopFlag<'a>,
     /// Which of the standard files are terminals.
     pub terminals: Terminals,
     /// The width of lines of explanations on standard error, in bytes.
     pub line_width: usize,
-}
-
-impl<'a, 'm> SubcommandContext<'a, 'm> {
-    /// The same with the output in a file, which is no terminal.
-    pub fn with_output_in_a_file(self) -> SubcommandContext<'a, 'm> {
-        SubcommandContext {
-            terminals: self.terminals.with_output_in_a_file(),
-            ..self
-        }
-    }
 }

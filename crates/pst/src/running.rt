@@ -1,36 +1,35 @@
 //! The run of a subcommand on its input: its output, and messages on standard error.
-ghost use Rattle.std.specs.Prelude.{◌≡◌, false};
+ghost use Rattle.std.specs.Prelude.{◌≡◌, IfOk, IfSome, IsSome};
+ghost use Rattle.pst.specs.Answering.{HasTrials};
+ghost use Rattle.pst.specs.Endings.{EndsWith, made, subcommand_of};
+ghost use Rattle.pst.specs.declared.subcommands.Subcommand.TheVariants as subcommand;
+ghost use Rattle.pst_cli.specs.Answering.{Delivers, Reaches, Stands, memory_of};
+ghost use Rattle.pst_cli.specs.Commands.{IsJudgeAnswer};
+ghost use Rattle.pst_cli.specs.declared.judge.JudgeOptions.{JudgeOptions};
 
+use crate::answering::{InputCommand, answer_input_command, refuse_absent};
 use crate::campaigning::run_campaign_subcommand;
-use crate::driving::drive_items_on_system_or_refuse;
-use crate::judging::run_judge_subcommand;
-use crate::outputs::WriteErrorKeeper;
+use crate::explaining::explain_command_from_arguments;
+use crate::generating::generate_command_from_arguments;
+use crate::outputs::{WriteErrorKeeper, print_output_error_unless_pipe_closed};
 use crate::preparing::{PreparedInput, SubcommandContext, output_file_name_from_arguments};
-use crate::result_file::{
-    ResultFileUnlessRefused, does_output_list_refused_items, open_or_create_file_without_emptying,
-};
-use crate::stop_signals::{StopFileState, StopFileWatch};
-use crate::subcommands::{Subcommand, is_json_selected};
+use crate::result_file::{ResultFile, open_or_create_file_without_emptying};
+use crate::stop_signals::{StopFileState, StopFileWatch, StopFlag};
+use crate::subcommands::{Subcommand, output_form_from_arguments};
 use crate::systems::{SystemsError, system_name_from_arguments_or_empty};
 use crate::terminal::{Terminals, line_width_of_environment_or_default};
-use crate::{
-    clients, diagnostics, explaining, formatting, generating, outputs, stop_signals, streaming,
-    summary,
-};
+use crate::{clients, diagnostics, driving, formatting, judging, stop_signals, streaming, summary};
 use clap::ArgMatches;
-use pst_cli::{
-    Absence, ItemResultCounts, Status, check_text, check_with_json_output, list_text, refuse_text,
-};
+use pst_cli::{Absence, Destinations, ItemResultCounts, Status};
 use pst_messages::ItemInput;
 use pst_sexpr::{Out, Sink};
-use pst_sources::Input;
+use pst_sources::{Input, SourceFile};
 use pst_system::BoxedSystem;
 use std::alloc::Global;
 use std::fs::{OpenFile, remove_file, symlink_metadata};
 use std::io;
 use std::io::Write;
-use std::rt::{Files, Runtime};
-use std::sync::atomic::AtomicBool;
+use std::rt::{Env, Files, Runtime};
 use std::sync::{Arc, Wait};
 use std::thread::{JoinHandle, Threads};
 use std::time::Clock;
@@ -38,92 +37,114 @@ use std::time::Clock;
 /// The systems that the arguments name.
 pub type SystemsResult = Result<Vec<BoxedSystem>, SystemsError>;
 
-/// Runs cases or trials on the systems, or refuses if they were not made. `arguments` are the arguments of the subcommand.
-fn run_subcommand_on_systems<
-    W: Sink,
-    R: Threads + Wait + Sync + Eprint + Files + Clock + AllocGlobal + Copy + Drop + Send + 'static,
->(
+/// Returns the systems, or why there are none if they were not made. `name` is their name in the arguments.
+pub fn systems_or_absence<'a, R: Eprint + AllocGlobal>(
     rt: &R,
-    context: SubcommandContext<'_, '_>,
     arguments: &ArgMatches<'_>,
-    input: Input<'_>,
+    name: &'a str,
     systems: SystemsResult,
-    counts: &mut ItemResultCounts,
-    out: &mut W,
-) -> Status
-    requires { W.broken out.old ≡ false }
+) -> Result<Vec<BoxedSystem>, Absence<'a>>
+    ensures { IfOk result (λ all. made systems ≡ all.items) }
 {
-    let systems = match systems {
-        Ok(systems) => systems,
-        Err(SystemsError::NoMemory) => return refuse_text(Absence::NoMemory, out),
+    match systems {
+        Ok(systems) => Ok(systems),
+        Err(SystemsError::NoMemory) => Err(Absence::NoMemory),
         Err(SystemsError::NoPipes(error)) => {
-            let name = system_name_from_arguments_or_empty(arguments);
             clients::print_client_pipe_error_unless_quiet(rt, arguments, name, &error);
-            return refuse_text(Absence::NoSystem(name), out);
+            Err(Absence::NoSystem(name))
         }
-    };
-    match context.matches.subcommand_name() {
-        Some("run") => {
-            let Input { files: _, bytes } = input;
-            drive_items_on_system_or_refuse(rt, context, arguments, systems, bytes, counts, out)
-        }
-        _ => run_campaign_subcommand(rt, context, arguments, systems, input, out),
     }
 }
 
-/// Checks the model, with the output that the arguments select.
-fn run_check_subcommand<W: Sink>(
-    alloc: Global,
-    arguments: &ArgMatches<'_>,
-    input: Input<'_>,
-    out: &mut W,
-) -> Status
-    requires { W.broken out.old ≡ false }
-{
-    let Input { files: _, bytes } = input;
-    if !is_json_selected(arguments) {
-        return check_text(alloc, bytes, out);
-    }
-    let notices = diagnostics::json_lines_of_notices_unless_quiet(alloc, arguments, &input);
-    check_with_json_output(alloc, bytes, notices.as_slice(), out)
-}
-
-/// Judges the items of the files, or those of standard input with `--stream`.
-fn judge_items_of_files_or_stream<
+/// Drives the cases on the last of the systems, or refuses if they were not made.
+#[tactic(auto, using(crate::proofs::Endings::ends_by_refusal))]
+fn drive_on_last_system<
+    F: Sink,
     W: Sink,
-    R: Runtime + Threads + Wait + Sync + AllocGlobal + Copy + Drop + Send + 'static,
+    R: Threads + Wait + Sync + Eprint + AllocGlobal + Copy + Drop + Send + 'static,
 >(
     rt: &R,
     context: SubcommandContext<'_, '_>,
-    arguments: &ArgMatches<'_>,
     input: Input<'_>,
+    systems: SystemsResult,
     counts: &mut ItemResultCounts,
-    out: &mut W,
+    to: &mut Destinations<F, W>,
 ) -> Status
-    requires { W.broken out.old ≡ false }
+    requires { Stands F.broken W.broken to.old }
+    ensures { EndsWith (λ s. (System-box s).answers s.value) (λ s. (System-box s).fails s.value)
+        (λ s. (System-box s).reset_fails s.value) (made systems) (IsSome context.entry.signal.is_set)
+        F.taken F.broken W.taken W.broken input.entry.bytes.now subcommand.Run to.old to.new result }
 {
-    let terminals = context.terminals;
-    if arguments.get_flag("stream") {
-        let Input { files: _, bytes } = input;
-        return streaming::judge_standard_input_with_messages(
-            rt, arguments, terminals, bytes, counts, out,
-        );
-    }
-    let read = context.files;
-    let input = ItemInput { trees: input, read };
-    run_judge_subcommand(
-        rt,
-        rt.alloc(),
-        arguments,
-        terminals.errors,
-        input,
-        counts,
-        out,
-    )
+    let arguments = context.arguments;
+    let name = system_name_from_arguments_or_empty(arguments);
+    let mut systems = match systems_or_absence(rt, arguments, name, systems) {
+        Ok(systems) => systems,
+        Err(why) => return refuse_absent(why, to),
+    };
+    let Some(mut system) = systems.pop() else {
+        return refuse_absent(Absence::NoSystem(name), to);
+    };
+    let options = driving::drive_options_from_arguments(arguments);
+    driving::drive_with_messages(rt, options, context, &mut system, input.bytes, counts, to)
 }
 
-/// Runs the subcommand, writes its output to `out`, and counts the results of its items.
+/// Returns the command that the arguments choose, if it needs nothing but its input. `notices` are part of the output of `check`.
+fn input_command_from_arguments<'a, R: Env + AllocGlobal>(
+    rt: &R,
+    subcommand: Subcommand,
+    arguments: &ArgMatches<'_>,
+    terminals: Terminals,
+    files: &'a [SourceFile<'a>],
+    notices: &'a [u8],
+) -> Option<InputCommand<'a>>
+    ensures trials { IfSome result HasTrials }
+    ensures subcommand { IfSome result (λ command. subcommand_of command ≡ subcommand) }
+{
+    match subcommand {
+        Subcommand::Check => Some(InputCommand::Check {
+            form: output_form_from_arguments(arguments),
+            notices,
+        }),
+        Subcommand::List => Some(InputCommand::ListCode),
+        Subcommand::Convert => Some(InputCommand::Convert(formatting::item_form_from_arguments(
+            arguments,
+        ))),
+        Subcommand::Generate => generate_command_from_arguments(arguments),
+        Subcommand::Explain => Some(explain_command_from_arguments(
+            rt, arguments, terminals, files,
+        )),
+        Subcommand::Judge | Subcommand::Run | Subcommand::Campaign => None,
+    }
+}
+
+/// Judges the items of the files.
+fn judge_items_of_files<
+    F: Sink,
+    W: Sink,
+    R: Threads + Wait + Sync + Eprint + AllocGlobal + Copy + Drop + Send + 'static,
+>(
+    rt: &R,
+    context: SubcommandContext<'_, '_>,
+    trees: Input<'_>,
+    counts: &mut ItemResultCounts,
+    to: &mut Destinations<F, W>,
+) -> Status
+    requires { Stands F.broken W.broken to.old }
+    ensures { (options : JudgeOptions) × Reaches (memory_of options.form) (IsJudgeAnswer options trees.entry.bytes.now)
+        (Delivers F.taken F.broken W.taken W.broken to.old to.new result) }
+{
+    let options = judging::judge_options_from_arguments(context.arguments);
+    let is_quiet = context.arguments.get_flag("quiet");
+    let has_progress_line = context.terminals.errors && !is_quiet;
+    let read = context.files;
+    let input = ItemInput { trees, read };
+    judging::judge_with_messages(rt, options, is_quiet, has_progress_line, input, counts, to)
+}
+
+/// Runs the subcommand, writes its output, and counts the results of its items.
+#[tactic(auto, using(crate::proofs::Endings::ends_silently))]
 fn run_subcommand<
+    F: Sink,
     W: Sink,
     R: Runtime + Threads + Wait + Sync + AllocGlobal + Copy + Drop + Send + 'static,
 >(
@@ -132,35 +153,65 @@ fn run_subcommand<
     input: Input<'_>,
     systems: SystemsResult,
     counts: &mut ItemResultCounts,
-    out: &mut W,
+    to: &mut Destinations<F, W>,
 ) -> Status
-    requires { W.broken out.old ≡ false }
+    requires { Stands F.broken W.broken to.old }
+    ensures { EndsWith (λ s. (System-box s).answers s.value) (λ s. (System-box s).fails s.value)
+        (λ s. (System-box s).reset_fails s.value) (made systems) (IsSome context.entry.signal.is_set)
+        F.taken F.broken W.taken W.broken input.entry.bytes.now context.entry.subcommand to.old to.new result }
 {
-    let Some((name, arguments)) = context.matches.subcommand() else {
-        return Status::Refused;
-    };
-    let alloc = rt.alloc();
-    let Input { files: _, bytes } = input;
-    match Subcommand::named(name) {
-        Some(Subcommand::Check) => run_check_subcommand(alloc, arguments, input, out),
-        Some(Subcommand::List) => list_text(alloc, bytes, out),
-        Some(Subcommand::Generate) => {
-            generating::run_generate_subcommand(rt, arguments, bytes, out)
-        }
-        Some(Subcommand::Convert) => {
-            formatting::run_convert_subcommand(alloc, arguments, bytes, out)
-        }
-        Some(Subcommand::Judge) => {
-            judge_items_of_files_or_stream(rt, context, arguments, input, counts, out)
-        }
-        Some(Subcommand::Explain) => {
-            explaining::run_explain_subcommand(rt, arguments, context.terminals, input, out)
-        }
-        Some(Subcommand::Run | Subcommand::Campaign) => {
-            run_subcommand_on_systems(rt, context, arguments, input, systems, counts, out)
-        }
-        None => Status::Refused,
+    let SubcommandContext {
+        subcommand,
+        arguments,
+        terminals,
+        ..
+    } = context;
+    let notices = diagnostics::notices_in_check_output(rt.alloc(), context.matches, &input);
+    let notices = notices.as_slice();
+    if let Some(command) = input_command_from_arguments(
+        rt,
+        subcommand,
+        arguments,
+        terminals,
+        input.files,
+        notices,
+    ) {
+        return answer_input_command(rt, command, input.bytes, to);
     }
+    match subcommand {
+        Subcommand::Judge => judge_items_of_files(rt, context, input, counts, to),
+        Subcommand::Run => drive_on_last_system(rt, context, input, systems, counts, to),
+        Subcommand::Campaign => run_campaign_subcommand(rt, context, systems, input, to),
+        _ => Status::Refused,
+    }
+}
+
+/// Judges the items of standard input with `--stream`, or else runs the subcommand.
+fn judge_stream_or_run_subcommand<
+    F: Sink,
+    W: Sink,
+    R: Runtime + Threads + Wait + Sync + AllocGlobal + Copy + Drop + Send + 'static,
+>(
+    rt: &R,
+    context: SubcommandContext<'_, '_>,
+    input: Input<'_>,
+    systems: SystemsResult,
+    counts: &mut ItemResultCounts,
+    to: &mut Destinations<F, W>,
+) -> Status
+    requires { Stands F.broken W.broken to.old }
+{
+    if !streaming::is_item_stream_selected(context.matches) {
+        return run_subcommand(rt, context, input, systems, counts, to);
+    }
+    streaming::judge_standard_input_with_messages(
+        rt,
+        context.arguments,
+        context.terminals,
+        input.bytes,
+        counts,
+        to,
+    )
 }
 
 /// Writes messages on refusals, warnings on a model that `check` accepts, and a line that sums up the items,
@@ -201,30 +252,6 @@ fn print_outcome_messages_unless_quiet<R: Eprint + AllocGlobal>(
     summary::print_summary_if_several_items(rt, counts);
 }
 
-/// Runs the subcommand with its output to `writer`, and returns its status and the error of the writer, if it had one.
-/// Unless the arguments forbid it, standard error has a message on each refusal, and warnings on a model that `check`
-/// accepts and after the lines of `judge`. Its last line sums up the items of `judge` and `run`.
-fn run_subcommand_with_writer_and_messages<
-    W: Write + Drop,
-    R: Runtime + AllocGlobal + Threads + Wait + Sync + Copy + Drop + Send + 'static,
->(
-    rt: &R,
-    context: SubcommandContext<'_, '_>,
-    input: Input<'_>,
-    systems: SystemsResult,
-    writer: W,
-) -> (Status, Option<io::Error>) {
-    let mut out = Out::new(WriteErrorKeeper::new(writer));
-    let mut counts = ItemResultCounts::new();
-    let status = run_subcommand(rt, context, input, systems, &mut counts, &mut out);
-    print_outcome_messages_unless_quiet(rt, context, input, status, &counts);
-    if out.has_failed() {
-        (status, out.into_inner().last_error())
-    } else {
-        (status, None)
-    }
-}
-
 /// Returns the status of a command with the status `status` whose output, to the file `name` or to standard output, had
 /// the error `failure`. Standard error says so if there is one.
 fn status_after_reporting_output_failure<R: Eprint + AllocGlobal>(
@@ -234,93 +261,83 @@ fn status_after_reporting_output_failure<R: Eprint + AllocGlobal>(
     failure: Option<io::Error>,
 ) -> Status {
     match failure {
-        Some(error) => outputs::print_output_error_unless_pipe_closed(rt, rt.alloc(), name, &error),
+        Some(error) => print_output_error_unless_pipe_closed(rt, rt.alloc(), name, &error),
         None => status,
     }
 }
 
-/// Ends the output of a command with the status `status` to the file `name`: empties the file if the output is empty and
-/// no refusal, and removes it if nothing was written to it and it was not there before. `failure` is the error of the
-/// output, if it had one.
-fn status_after_ending_result_file<R: Runtime + AllocGlobal, F: Write + OpenFile + Drop>(
+/// Returns the writer of an output, and the error that the output failed with.
+fn writer_and_error_if_failed<W: Write>(
+    output: Out<WriteErrorKeeper<W>>,
+) -> (W, Option<io::Error>) {
+    let has_failed = output.has_failed();
+    let (writer, failure) = output.into_inner().into_parts();
+    if has_failed {
+        (writer, failure)
+    } else {
+        (writer, None)
+    }
+}
+
+/// Ends the output of a command with the status `status` to the file `name`: empties the file if nothing was written to it
+/// and the input is not refused, and removes it if it stays as it was and was not there before.
+fn status_after_ending_result_file<R: Files + Eprint + AllocGlobal, F: Write + OpenFile + Drop>(
     rt: &R,
-    mut output: ResultFileUnlessRefused<'_, R, F>,
+    file: Out<WriteErrorKeeper<ResultFile<F>>>,
     name: &str,
     was_there: bool,
     status: Status,
-    failure: Option<io::Error>,
 ) -> Status {
-    let failure = match failure {
-        Some(error) => Some(error),
-        None => output.empty_file_if_finished_without_output(status).err(),
-    };
-    if !output.has_chosen_file() && !was_there {
+    let (mut file, mut failure) = writer_and_error_if_failed(file);
+    if failure.is_none() && matches!(status, Status::Accepted | Status::Failed) {
+        failure = file.begin().err();
+    }
+    if !file.has_begun() && !was_there {
         let _ = remove_file(rt, name);
     }
-    let name = if output.has_chosen_standard_output() {
-        None
-    } else {
-        Some(name)
-    };
-    status_after_reporting_output_failure(rt, status, name, failure)
+    status_after_reporting_output_failure(rt, status, Some(name), failure)
 }
 
-/// Runs the subcommand with its output to the file `name`. If the input is refused, its refusal goes to standard output,
-/// and the file stays as it was.
-fn run_subcommand_to_file_unless_refused<
-    R: Runtime + AllocGlobal + Threads + Wait + Sync + Copy + Drop + Send + 'static,
->(
-    rt: &R,
-    context: SubcommandContext<'_, '_>,
-    input: Input<'_>,
-    systems: SystemsResult,
-    name: &str,
-) -> Status {
-    let was_there = symlink_metadata(rt, name).is_ok();
-    let file = match open_or_create_file_without_emptying(rt, name) {
-        Ok(file) => file,
-        Err(error) => return status_after_reporting_output_failure(
-            rt,
-            Status::Lost,
-            Some(name),
-            Some(error),
-        ),
-    };
-    let mut output = ResultFileUnlessRefused::new(
-        rt,
-        file,
-        does_output_list_refused_items(context.matches),
-    );
-    let context = context.with_output_in_a_file();
-    let (status, failure) = run_subcommand_with_writer_and_messages(
-        rt,
-        context,
-        input,
-        systems,
-        &mut output,
-    );
-    status_after_ending_result_file(rt, output, name, was_there, status, failure)
-}
-
-/// Runs the subcommand with its output to the file that the arguments name, or to standard output.
+/// Runs the subcommand with its output to the file that the arguments name, or to standard output. If the input is refused,
+/// the refusal goes to standard output, and the file stays as it was. Unless the arguments forbid them, messages on
+/// standard error follow; their last line sums up the items of `judge` and `run`.
 fn run_subcommand_to_chosen_output<
     R: Runtime + AllocGlobal + Threads + Wait + Sync + Copy + Drop + Send + 'static,
 >(rt: &R, context: SubcommandContext<'_, '_>, input: Input<'_>, systems: SystemsResult) -> Status {
-    if let Some(name) = output_file_name_from_arguments(context.matches) {
-        return run_subcommand_to_file_unless_refused(rt, context, input, systems, name);
+    let mut to = Destinations {
+        file: None,
+        out: Out::new(WriteErrorKeeper::new(io::writer(rt))),
+    };
+    let mut was_there = true;
+    let name = output_file_name_from_arguments(context.matches);
+    if let Some(name) = name {
+        was_there = symlink_metadata(rt, name).is_ok();
+        match open_or_create_file_without_emptying(rt, name) {
+            Ok(file) => to.file = Some(Out::new(WriteErrorKeeper::new(ResultFile::new(file)))),
+            Err(error) => return print_output_error_unless_pipe_closed(
+                rt,
+                rt.alloc(),
+                Some(name),
+                &error,
+            ),
+        }
     }
-    let (status, failure) = run_subcommand_with_writer_and_messages(
-        rt,
-        context,
-        input,
-        systems,
-        io::writer(rt),
-    );
-    status_after_reporting_output_failure(rt, status, None, failure)
+    let mut counts = ItemResultCounts::new();
+    let status = judge_stream_or_run_subcommand(rt, context, input, systems, &mut counts, &mut to);
+    print_outcome_messages_unless_quiet(rt, context, input, status, &counts);
+    let Destinations { file, out } = to;
+    let (_, failure) = writer_and_error_if_failed(out);
+    let status = status_after_reporting_output_failure(rt, status, None, failure);
+    match (name, file) {
+        (Some(name), Some(file)) => status_after_ending_result_file(
+            rt, file, name, was_there, status,
+        ),
+        _ => status,
+    }
 }
 
 /// Runs the subcommand, while a thread looks for clients that do not answer. Then standard error has the notes of the
-/// clients, unless the arguments forbid it. `has_appeared` says whether the file is there that ends a campaign.
+/// clients, unless the arguments forbid it.
 fn run_subcommand_while_watching_clients<
     R: Runtime + AllocGlobal + Threads + Wait + Sync + Copy + Drop + Send + 'static,
 >(
@@ -329,27 +346,34 @@ fn run_subcommand_while_watching_clients<
     prepared: &PreparedInput<'_>,
     terminals: Terminals,
     systems: SystemsResult,
-    has_appeared: Option<Arc<AtomicBool>>,
+    signal: StopFlag<'_>,
 ) -> Status {
-    let alloc = rt.alloc();
-    let ending = stop_signals::early_stop_from_arguments(matches, has_appeared);
+    let Some((name, arguments)) = matches.subcommand() else {
+        return Status::Refused;
+    };
+    let Some(subcommand) = Subcommand::named(name) else {
+        return Status::Refused;
+    };
+    let is_in_file = output_file_name_from_arguments(matches).is_some();
     let context = SubcommandContext {
+        subcommand,
         matches,
-        files: prepared.source_files_as_read(),
+        arguments,
+        files: prepared.read.as_slice(),
         misfits: prepared.misfits.as_deref(),
-        ending: &ending,
-        terminals,
+        signal,
+        terminals: if is_in_file {
+            terminals.with_output_in_a_file()
+        } else {
+            terminals
+        },
         line_width: line_width_of_environment_or_default(&rt),
     };
-    let watch = clients::start_client_watch_unless_quiet(rt, alloc, matches, &prepared.notes);
-    let status = run_subcommand_to_chosen_output(
-        &rt,
-        context,
-        prepared.input_with_items_as_trees(),
-        systems,
-    );
+    let watch = clients::start_client_watch_unless_quiet(&rt, rt.alloc(), matches, &prepared.notes);
+    let input = prepared.input_with_items_as_trees();
+    let status = run_subcommand_to_chosen_output(&rt, context, input, systems);
     if let Some(watch) = watch {
-        watch.end_thread_and_wait(&rt);
+        watch.end_and_wait(&rt);
     }
     clients::print_client_notes_unless_quiet(&rt, matches, &prepared.notes);
     status
@@ -376,13 +400,11 @@ pub fn run_subcommand_while_watching<
         return diagnostics::print_memory_refusal(&rt);
     };
     let watch = StopFileWatch::start_if_file_is_named(alloc, matches, &has_appeared, start_thread);
+    let signal = StopFlag {
+        is_set: has_appeared.as_deref(),
+    };
     let status = run_subcommand_while_watching_clients(
-        rt,
-        matches,
-        prepared,
-        terminals,
-        systems,
-        has_appeared,
+        rt, matches, prepared, terminals, systems, signal,
     );
     if let Some(watch) = watch {
         watch.end_thread_and_wait(&rt);

@@ -1,9 +1,11 @@
 //! Files of the failures of a campaign, with commands whose arguments are quoted as a shell reads them.
+ghost use Rattle.std.specs.Prelude.{◌≡◌, IfErr, IfOk};
+ghost use Rattle.pst_cli.specs.declared.answer.Status.TheVariants.{Lost};
 
 use crate::input::STANDARD_INPUT;
 use crate::outputs::print_file_error_to_stderr;
 use clap::ArgMatches;
-use pst_cli::Status;
+use pst_cli::{CampaignNotes, Status};
 use pst_clients::ClientFolder;
 use pst_report::NumberedFailure;
 use std::alloc::{AllocError, Global};
@@ -133,25 +135,29 @@ pub fn refuse_file_as_save_folder<R: Files + Eprint>(
 }
 
 impl<'a> FailureSaver<'a> {
-    /// Makes the folder `folder`, unless it is there, for the failures of a campaign on the systems `name`. If it cannot be
-    /// made, standard error says why, and the status is `Lost`.
-    pub fn begin_by_making_folder<R: Files + Eprint + AllocGlobal>(
+    /// Makes the folder that the arguments name, if they name one and unless it is there, for the failures of a campaign on
+    /// the systems `name`. If it cannot be made, standard error says why, and the status is `Lost`.
+    pub fn begin_if_wanted<R: Files + Eprint + AllocGlobal>(
         rt: &R,
-        arguments: &ArgMatches<'_>,
-        folder: &'a str,
+        arguments: &ArgMatches<'a>,
         seed: u64,
         name: &str,
-    ) -> Result<Result<FailureSaver<'a>, Status>, AllocError> {
+    ) -> Result<Result<Option<FailureSaver<'a>>, Status>, AllocError>
+        ensures { IfOk result (λ begun. IfErr begun (λ status. status ≡ Lost)) }
+    {
+        let Some(folder) = arguments.get_str("save") else {
+            return Ok(Ok(None));
+        };
         if let Err(error) = std::fs::create_dir_all(rt, folder) {
             print_file_error_to_stderr(rt, rt.alloc(), "make", folder, &error);
             return Ok(Err(Status::Lost));
         }
         let command = command_start_to_drive_failure_again(rt, arguments, name)?;
-        Ok(Ok(FailureSaver {
+        Ok(Ok(Some(FailureSaver {
             folder,
             seed,
             command,
-        }))
+        })))
     }
 
     /// Writes the file of a failure.
@@ -164,14 +170,17 @@ impl<'a> FailureSaver<'a> {
         std::fs::write(rt, file.as_str(), text.as_slice())
     }
 
-    /// Saves failures, and says on standard error how many there are, unless it is to be quiet. The status is `Lost` if one
-    /// cannot be written, and else `Accepted`.
-    pub fn save_failures_and_print_count<R: Files + Eprint + AllocGlobal>(
+    /// Saves the noted failures, and says on standard error how many there are, unless it is to be quiet. The status is
+    /// `Lost` if one cannot be written, and else `Accepted`.
+    pub fn save_noted_failures<R: Files + Eprint + AllocGlobal>(
         &self,
         rt: &R,
-        failures: &[NumberedFailure],
+        notes: &CampaignNotes,
         is_quiet: bool,
     ) -> Status {
+        let Some(failures) = &notes.saved else {
+            return Status::Accepted;
+        };
         let folder = self.folder;
         for numbered in failures {
             if let Err(error) = self.write(rt, numbered) {

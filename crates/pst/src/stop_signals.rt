@@ -1,18 +1,46 @@
-//! Signals to stop: a file that ends a campaign when it appears, and the signal that ends a thread beside a command.
+//! The file that ends a campaign once it is there, and threads beside a command.
 //! The kit has no handler of signals: the launcher makes the file at Ctrl-C.
 
 use crate::input;
 use clap::ArgMatches;
-use pst_campaign::EarlyStop;
+use pst_campaign::Signal;
 use std::alloc::{AllocError, Global};
 use std::rt::Files;
 use std::sync::atomic::{AtomicBool, Ordering};
 use std::sync::{Arc, Wait};
-use std::thread::{JoinHandle, Parker, Threads};
+use std::thread::{Builder, JoinHandle, Parker, Threads};
 use std::time::Duration;
 
-/// How many milliseconds pass between two looks.
+/// How many milliseconds pass between two looks for the file.
 const PAUSE: u64 = 100;
+
+/// The name of the file that ends a campaign, if the arguments give one.
+pub fn stop_file_name_from_arguments<'a>(matches: &ArgMatches<'a>) -> Option<&'a str> {
+    match matches.subcommand() {
+        Some(("campaign", arguments)) => arguments.get_str("stop-file"),
+        _ => None,
+    }
+}
+
+/// The flag of the file that ends a campaign: it is set once the file is there.
+#[derive(Clone, Copy, Drop)]
+pub struct StopFlag<'a> {
+    /// None if the arguments name no file.
+    pub is_set: Option<&'a AtomicBool>,
+}
+
+impl<'a> Signal for StopFlag<'a> {
+    ghost use Rattle.std.specs.Prelude.{IsSome};
+
+    ghost may_be_given = { λ flag. IsSome flag.is_set };
+
+    fn is_given(&self) -> bool {
+        match self.is_set {
+            Some(flag) => flag.load(Ordering::SeqCst),
+            None => false,
+        }
+    }
+}
 
 /// What the thread that looks for the file shares with the one that ends it.
 #[derive(Drop)]
@@ -40,14 +68,6 @@ pub fn watch_for_stop_file<R: Wait + Files>(rt: &R, watched: &StopFileState) {
 pub struct StopFileWatch {
     watched: Arc<StopFileState, Global>,
     thread: JoinHandle<()>,
-}
-
-/// The name of the file that ends a campaign, if the arguments give one.
-pub fn stop_file_name_from_arguments<'a>(matches: &ArgMatches<'a>) -> Option<&'a str> {
-    match matches.subcommand() {
-        Some(("campaign", arguments)) => arguments.get_str("stop-file"),
-        _ => None,
-    }
 }
 
 /// A shared flag: whether the file that ends a campaign exists. `None` if the arguments name no file.
@@ -101,28 +121,28 @@ impl StopFileWatch {
     }
 }
 
-/// When a campaign ends before all its trials have run, by the arguments.
-pub fn early_stop_from_arguments(
-    matches: &ArgMatches<'_>,
-    has_appeared: Option<Arc<AtomicBool>>,
-) -> EarlyStop {
-    let most = match matches.subcommand() {
-        Some(("campaign", arguments)) => arguments.get_one("max-failures"),
-        _ => None,
-    };
-    EarlyStop::new(most, has_appeared)
+/// What a thread does beside a command, again and again.
+pub trait SideTask {
+    /// How many milliseconds pass before each turn.
+    fn pause(&self) -> u64;
+
+    /// Does one turn, `milliseconds` after the beginning.
+    fn turn<R: Eprint>(&mut self, rt: &R, milliseconds: u64);
+
+    /// Ends after at least one turn.
+    fn end<R: Eprint>(&self, _rt: &R) {}
 }
 
 /// Tells a thread that the command is over, at once also if the thread is waiting.
 #[derive(Drop)]
-pub struct EndSignal {
+struct EndSignal {
     is_over: AtomicBool,
     parker: Parker,
 }
 
 impl EndSignal {
     /// A signal that is not sent yet.
-    pub fn new() -> EndSignal {
+    fn new() -> EndSignal {
         EndSignal {
             is_over: AtomicBool::new(false),
             parker: Parker::new(),
@@ -130,15 +150,61 @@ impl EndSignal {
     }
 
     /// Sends the signal.
-    pub fn send(&self) {
+    fn send(&self) {
         self.is_over.store(true, Ordering::SeqCst);
         self.parker.unpark();
     }
 
     /// Waits for the signal, at most `milliseconds`, and returns whether it is sent.
-    pub fn wait<R: Wait>(&self, rt: &R, milliseconds: u64) -> bool {
+    fn wait<R: Wait>(&self, rt: &R, milliseconds: u64) -> bool {
         self.parker
             .park_timeout(rt, Duration::from_millis(milliseconds));
         self.is_over.load(Ordering::SeqCst)
+    }
+}
+
+/// Does the turns of a task until the command is over.
+fn do_turns_until_over<R: Wait + Eprint, T: SideTask>(rt: &R, task: &mut T, end: &EndSignal) {
+    let pause = task.pause();
+    let mut milliseconds = 0u64;
+    for _ in rt.forever() {
+        if end.wait(rt, pause) {
+            break;
+        }
+        milliseconds = milliseconds.saturating_add(pause);
+        task.turn(rt, milliseconds);
+    }
+    if milliseconds > 0 {
+        task.end(rt);
+    }
+}
+
+/// A thread beside a command.
+#[derive(Drop)]
+pub struct SideThread {
+    end: Arc<EndSignal, Global>,
+    thread: JoinHandle<()>,
+}
+
+impl SideThread {
+    /// Starts a thread that does the turns of a task, if there is memory and a thread for it.
+    pub fn start<
+        R: Threads + Wait + Eprint + Copy + Drop + Send + 'static,
+        T: SideTask + Drop + Send + 'static,
+    >(rt: &R, alloc: Global, mut task: T) -> Option<SideThread> {
+        let end = Arc::new(alloc, EndSignal::new()).ok()?;
+        let own = Arc::try_clone(&end).ok()?;
+        let rt = *rt;
+        let thread = Builder::new()
+            .spawn(&rt, move || do_turns_until_over(&rt, &mut task, &own))
+            .ok()?;
+        Some(SideThread { end, thread })
+    }
+
+    /// Ends the thread, and waits for it.
+    pub fn end_and_wait<R: Threads + Wait>(self, rt: &R) {
+        let SideThread { end, thread } = self;
+        end.send();
+        thread.join(rt)
     }
 }

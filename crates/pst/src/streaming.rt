@@ -1,15 +1,18 @@
 //! `pst judge --stream`.
-ghost use Rattle.std.specs.Prelude.{◌≡◌, false};
+ghost use Rattle.std.specs.Prelude.{◌≡◌, false, ℕ, List, Some};
+ghost use Rattle.pst_cli.specs.Answering.{Delivers, Reaches, Stands};
+ghost use Rattle.pst_cli.specs.Sending.{memory_line};
+ghost use Rattle.pst_cli.specs.StreamOutput.{IsStreamOutput};
 
 use crate::input::STANDARD_INPUT;
-use crate::item_progress::ItemProgressDisplay;
+use crate::item_progress::ProgressDisplay;
 use crate::line_messages::{MOST_LINES, RefusedLineMessages};
 use crate::outputs::print_file_error_to_stderr;
 use crate::terminal::Terminals;
 use clap::ArgMatches;
 use pst_cli::{
-    Absence, ItemResultCounts, ProgressCounter, Status, count_items_of_input, judge_stream,
-    refuse_text,
+    Absence, Attendant, Destinations, ItemResultCounts, RefusedLineReceiver, Status,
+    count_items_of_input, judge_stream, refuse_text,
 };
 use pst_sexpr::Sink;
 use std::alloc::Global;
@@ -109,38 +112,54 @@ impl<I: Read> Read for ReadErrorKeeper<I> {
     }
 }
 
-/// Judges the items of standard input, one on each line, by the model at the beginning of `input`. Standard error says why
-/// standard input cannot be read, if that is so, unless `is_quiet`.
-fn judge_lines_of_standard_input<W: Sink, R: Threads + Wait + Sync + Input + Eprint + AllocGlobal>(
+/// Judges the items of a reader, one on each line, by the model at the beginning of `input`. If `has_progress_line`, a line
+/// displays how many are judged. Returns the status, and why the reader failed if it did. `receiver` gets the refused lines.
+fn judge_stream_with_progress<
+    I: Read + Drop,
+    F: Sink,
+    W: Sink,
+    R: Threads + Wait + Sync + Eprint + AllocGlobal + Copy + Drop + Send + 'static,
+    L: RefusedLineReceiver,
+>(
     rt: &R,
+    has_progress_line: bool,
     input: &[u8],
+    reader: I,
     counts: &mut ItemResultCounts,
-    steps: &ProgressCounter,
-    messages: &mut RefusedLineMessages<'_, R>,
-    is_quiet: bool,
-    out: &mut W,
-) -> Status
-    requires { W.broken out.old ≡ false }
+    receiver: &mut L,
+    to: &mut Destinations<F, W>,
+) -> (Status, Option<io::Error>)
+    requires { Stands F.broken W.broken to.old }
+    ensures { (bytes : List ℕ) → I.remaining reader ≡ Some bytes → Reaches memory_line (IsStreamOutput input.now bytes)
+        (Delivers F.taken F.broken W.taken W.broken to.old to.new result.0) }
 {
     let alloc = rt.alloc();
+    let mut display = ProgressDisplay::of_items(rt, alloc, has_progress_line, "judged");
     let mut reader = ReadErrorKeeper {
-        reader: rt.reader(),
+        reader,
         failure: None,
     };
-    let status = judge_stream(rt, alloc, input, &mut reader, counts, steps, messages, out);
-    if let Some(error) = reader.failure {
-        if !is_quiet {
-            print_file_error_to_stderr(rt, alloc, "read", "standard input", &error);
-        }
-    }
-    status
+    let status = judge_stream(
+        rt,
+        alloc,
+        input,
+        &mut reader,
+        counts,
+        display.steps(),
+        receiver,
+        to,
+    );
+    display.before_output();
+    (status, reader.failure)
 }
 
 /// Judges the items of standard input, one on each line, by the model at the beginning of `input`. If standard error is
 /// a terminal and standard output is not, a line displays how many are judged.
 /// Unless the arguments forbid messages, standard error has a message on each of the first refused lines, says how many
-/// others are refused, and says if there are items after the model, which are not judged.
+/// others are refused, says if there are items after the model, which are not judged, and why standard input cannot be
+/// read, if that is so.
 pub fn judge_standard_input_with_messages<
+    F: Sink,
     W: Sink,
     R: Threads + Wait + Sync + Input + Eprint + AllocGlobal + Copy + Drop + Send + 'static,
 >(
@@ -149,9 +168,9 @@ pub fn judge_standard_input_with_messages<
     terminals: Terminals,
     input: &[u8],
     counts: &mut ItemResultCounts,
-    out: &mut W,
+    to: &mut Destinations<F, W>,
 ) -> Status
-    requires { W.broken out.old ≡ false }
+    requires { Stands F.broken W.broken to.old }
 {
     let alloc = rt.alloc();
     let is_quiet = arguments.get_flag("quiet");
@@ -159,23 +178,21 @@ pub fn judge_standard_input_with_messages<
         print_warning_if_file_has_unjudged_items(rt, alloc, input);
     }
     let has_progress_line = terminals.errors && !terminals.output && !is_quiet;
-    let Ok(telling) = ItemProgressDisplay::begin(rt, alloc, has_progress_line, "judged") else {
-        return refuse_text(Absence::NoMemory, out);
-    };
     let most = max_refusal_messages_from_arguments(arguments);
     let name = arguments.get_str("FILE").unwrap_or(STANDARD_INPUT);
     let mut messages = RefusedLineMessages::new(rt, name, input, most, has_progress_line);
-    let steps = telling.steps();
-    let status = judge_lines_of_standard_input(
+    let (status, failure) = judge_stream_with_progress(
         rt,
+        has_progress_line,
         input,
+        rt.reader(),
         counts,
-        steps,
         &mut messages,
-        is_quiet,
-        out,
+        to,
     );
-    telling.end_thread_and_wait(rt);
+    if !is_quiet && let Some(error) = failure {
+        print_file_error_to_stderr(rt, alloc, "read", "standard input", &error);
+    }
     print_count_of_refusals_without_message(rt, counts.refused, most);
     status
 }

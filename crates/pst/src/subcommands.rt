@@ -7,7 +7,7 @@ use crate::{explaining, formatting, help, page};
 use clap::Command;
 pub use options::{
     is_client_option_given, is_json_selected, model_and_items_files_argument, only_failures_option,
-    output_option, quiet_option,
+    output_form_from_arguments, output_option, quiet_option,
 };
 pub use plan::{campaign_settings_from_arguments, settings_for_generate_from_arguments};
 use std::alloc::{AllocError, Global};

@@ -96,18 +96,40 @@ fn nearest_system_name_hint(alloc: Global, name: &str) -> Result<Option<String>,
     }
 }
 
+/// Returns whether a file of this name probably holds a model or items.
+fn looks_like_input_file(name: &str) -> bool {
+    name.ends_with(".model")
+        || name.ends_with(".runs")
+        || name.ends_with(".cases")
+        || name.ends_with(".json")
+}
+
+/// Returns a hint on a file that is in the place of a system: how it runs as a client if `files`, the names after it, have
+/// the model, or what comes before a model.
+fn file_in_place_of_system_hint(
+    alloc: Global,
+    name: &str,
+    files: &[&str],
+) -> Result<String, AllocError> {
+    if files.is_empty() || looks_like_input_file(name) {
+        return format!(in alloc;
+            "hint: `{name}` is a file: write a client or a system before it, as in `--client ./client.py {name}` or `counter {name}`"
+        );
+    }
+    let folder = if name.contains('/') { "" } else { "./" };
+    format!(in alloc; "hint: did you mean `--client {folder}{name}`?")
+}
+
 /// Returns a hint on a name that no system has: what a file of that name needs, how a command is given, or the nearest
-/// name.
+/// name. `files` are the names after it.
 fn unknown_system_hint<R: Files + AllocGlobal>(
     rt: &R,
     name: &str,
+    files: &[&str],
 ) -> Result<Option<String>, AllocError> {
     let alloc = rt.alloc();
     if input::can_file_be_opened(rt, name) {
-        let hint = format!(in alloc;
-            "hint: `{name}` is a file: write a client or a system before it, as in `--client ./client.py {name}` or `counter {name}`"
-        )?;
-        return Ok(Some(hint));
+        return Ok(Some(file_in_place_of_system_hint(alloc, name, files)?));
     }
     if looks_like_command_or_path(name) {
         let hint = format!(in alloc;
@@ -169,7 +191,7 @@ pub fn refuse_unopened_file_or_unknown_system<W: Sink, R: Files + Eprint + Alloc
     let _ = eprintln!(rt;
         "pst: there is no system `{name}`: the systems are counter, racy, stuck, registry, queue and meet"
     );
-    if let Ok(Some(hint)) = unknown_system_hint(rt, name) {
+    if let Ok(Some(hint)) = unknown_system_hint(rt, name, files) {
         let _ = eprintln!(rt; "  {hint}");
     }
     status

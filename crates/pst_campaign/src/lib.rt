@@ -10,4 +10,6 @@ mod watch;
 
 pub use campaigns::{CampaignFault, campaign, campaign_until};
 pub use runner::run_trials_until_none_is_left;
-pub use watch::{EarlyStop, NeverStops, StopCondition, Unwatched, Watch, did_not_pass};
+pub use watch::{
+    EarlyStop, NeverStops, NoSignal, Signal, StopCondition, Unwatched, Watch, did_not_pass,
+};

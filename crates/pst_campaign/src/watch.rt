@@ -2,9 +2,7 @@
 
 use pst_ledger::Cause;
 use pst_trial::{Record, ShrinkProgress, TrialOutcome};
-use std::alloc::Global;
-use std::sync::Arc;
-use std::sync::atomic::{AtomicBool, AtomicU64, Ordering};
+use std::sync::atomic::{AtomicU64, Ordering};
 
 /// One who watches a campaign while it runs. It changes nothing of what the campaign gives.
 pub trait Watch {
@@ -70,48 +68,61 @@ impl<'a, K: Watch> StopCondition for NeverStops<'a, K> {
     }
 }
 
-/// Ends a campaign once some of its trials did not pass, or when it is interrupted.
+/// A signal that ends a campaign, as a file that appears when the user interrupts it.
+pub trait Signal {
+    ghost use Rattle.std.specs.Prelude.{IsTrue};
+
+    /// That the signal may be given.
+    ghost may_be_given: { Self → Type 0 };
+
+    /// Whether the signal is given. A worker looks before it draws a number.
+    fn is_given(&self) -> bool
+        ensures { IsTrue result → may_be_given self.now };
+}
+
+/// A signal that is never given.
+#[derive(Clone, Copy, Drop)]
+pub struct NoSignal;
+
+impl Signal for NoSignal {
+    ghost may_be_given = { λ _. ⊥ };
+
+    fn is_given(&self) -> bool {
+        false
+    }
+}
+
+/// Ends a campaign once some of its trials did not pass, or when a signal is given.
 #[derive(Drop)]
-pub struct EarlyStop {
+pub struct EarlyStop<N> {
     /// How many trials that did not pass end the campaign, if there is a limit.
     most: Option<u64>,
     /// How many did not pass so far.
     failures: AtomicU64,
-    /// Whether the campaign was interrupted, if that may happen.
-    interrupted: Option<Arc<AtomicBool>>,
+    signal: N,
 }
 
-impl EarlyStop {
+impl<N: Signal> EarlyStop<N> {
     ghost use Rattle.std.specs.Prelude.{◌≡◌, IsTrue, IsSome};
 
     /// The end of a campaign in which no trial has ended.
-    pub fn new(most: Option<u64>, interrupted: Option<Arc<AtomicBool>>) -> EarlyStop
+    pub fn new(most: Option<u64>, signal: N) -> EarlyStop<N>
         ensures limit { result.most ≡ most }
-        ensures interrupt { result.interrupted ≡ interrupted }
+        ensures signal { result.signal ≡ signal }
     {
         EarlyStop {
             most,
             failures: AtomicU64::new(0),
-            interrupted,
+            signal,
         }
     }
 
     /// Whether enough trials did not pass for the campaign to be over.
-    fn has_reached_limit_of_unpassed_trials(&self) -> bool
+    fn has_reached_limit(&self) -> bool
         ensures { IsTrue result → IsSome self.now.most }
     {
         match self.most {
             Some(most) => self.failures.load(Ordering::SeqCst) >= most,
-            None => false,
-        }
-    }
-
-    /// Whether the campaign was interrupted.
-    fn is_interrupted(&self) -> bool
-        ensures { IsTrue result → IsSome self.now.interrupted }
-    {
-        match &self.interrupted {
-            Some(interrupted) => interrupted.load(Ordering::SeqCst),
             None => false,
         }
     }
@@ -125,7 +136,7 @@ pub fn did_not_pass(record: &Record) -> bool {
     }
 }
 
-impl Watch for EarlyStop {
+impl<N: Signal> Watch for EarlyStop<N> {
     fn trial_ended(&self, ended: &Result<Record, Cause>) {
         if let Ok(record) = ended
             && did_not_pass(record)
@@ -137,12 +148,12 @@ impl Watch for EarlyStop {
     fn campaign_ended(&self) {}
 }
 
-impl StopCondition for EarlyStop {
+impl<N: Signal> StopCondition for EarlyStop<N> {
     ghost use Rattle.std.specs.Prelude.{◌⊎◌, IsSome};
 
-    ghost may_end = { λ e. IsSome e.most ⊎ IsSome e.interrupted };
+    ghost may_end = { λ e. IsSome e.most ⊎ N.may_be_given e.signal };
 
     fn is_campaign_over(&self) -> bool {
-        self.has_reached_limit_of_unpassed_trials() || self.is_interrupted()
+        self.has_reached_limit() || self.signal.is_given()
     }
 }

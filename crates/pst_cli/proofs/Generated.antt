@@ -1,26 +1,25 @@
 -- The lines of cases, block by block.
-use Rattle.std.proofs.Common.{◌≡◌, ◌≤◌, ◌∙◌, inl, inr, ℕ, zero, suc, ◌+◌, ◌-◌, Bool, false, List, [], ◌∷◌, ◌++◌, Option, refl, sym, ap, subst, arith, append_assoc, append-nil}
-use Rattle.std.proofs.KnownBytes.{Appends-nil, Appends-trans}
-use Rattle.std.specs.Io.KnownBytes.{Appends}
+use Rattle.std.proofs.Common.{◌≡◌, ◌≤◌, inl, inr, ℕ, zero, suc, ◌+◌, ◌-◌, Bool, false, List, [], ◌∷◌, ◌++◌, Option, refl, sym, subst, arith, append_assoc}
+use Rattle.std.proofs.KnownBytes.{Appends-nil}
 use Rattle.std.specs.List.{AllZip, range_with_len}
 use Rattle.pst_cli.proofs.Streamed.{all_after, part_after, part_of_more, sends_behind}
 use Rattle.pst_cli.specs.CampaignOutput.{plan_of}
 use Rattle.pst_cli.specs.GenerateOutput.{AreCaseLines, none, next, IsGenerateOutput, whole, cut as cut_short, memory_in}
-use Rattle.pst_cli.specs.Generating.{AreCutShort, AreWritten, EndsLines, IsLineOf}
+use Rattle.pst_cli.specs.Generating.{AreCutShort, AreWritten, IsLineOf}
 use Rattle.pst_cli.specs.Outputs.{joined, worst_of}
-use Rattle.pst_cli.specs.Sending.{PrintsElse, Sends}
+use Rattle.pst_cli.specs.Sending.{Sends, SendsOne}
 use Rattle.pst_cli.specs.Status.{or_worse}
 use Rattle.pst_cli.specs.Streaming.{IsWrittenTo}
 use Rattle.pst_cli.specs.declared.model_commands.ItemForm.{ItemForm}
-use Rattle.pst_cli.specs.declared.output.Output.{Output}
-use Rattle.pst_cli.specs.declared.output.Status.{Status}
-use Rattle.pst_cli.specs.declared.output.Status.TheVariants.{Accepted, Lost}
+use Rattle.pst_cli.specs.declared.answer.Output.{Output}
+use Rattle.pst_cli.specs.declared.answer.Status.{Status}
+use Rattle.pst_cli.specs.declared.answer.Status.TheVariants.{Accepted, Lost}
 use Rattle.pst_cli.specs.declared.stream.Cut.{Cut}
 use Rattle.pst_cli.specs.declared.stream.Cut.TheVariants as cut
 use Rattle.pst_typing.specs.Loading.{Holds}
 use Rattle.pst_model.specs.declared.model.Source.{Source}
 use Rattle.pst_sexpr.specs.declared.form.Form.{Form}
-use Rattle.pst_sexpr.specs.Writing.{WritesAll, WritesPart}
+use Rattle.pst_sexpr.specs.Writing.{WritesAll}
 use Rattle.pst_trial.specs.PlanView.{PlanView}
 use Rattle.pst_trial.specs.declared.plan.Settings.{Settings}
 
@@ -120,38 +119,38 @@ module _ (f : ItemForm) (input : List ℕ) (settings : Settings) (first count : 
     (before : Option (List ℕ)) where
   pub whole_prints : {after : Option (List ℕ)} {broken : Bool} {status : Status}
       → AreWritten f (plan_of m settings) first count Accepted before after broken status
-      → PrintsElse (memory_in f) (IsGenerateOutput f settings first count input) before after broken status
+      → SendsOne (IsGenerateOutput f settings first count input) before after broken status
   whole_prints {after} {broken} {status} w =
-      record { text = w.text; status = status; lawful = inl (whole m trees holds w.lines); sent = inl (w.written, refl) }
+      record { text = w.text; status = status; lawful = whole m trees holds w.lines; sent = inl (w.written, refl) }
 
   cut_prints : {mid after : Option (List ℕ)} {mid_broken broken : Bool} {answer : Status} (why : Cut)
       → (w : AreCutShort f (plan_of m settings) first count Accepted before mid mid_broken why)
       → WritesAll before mid mid_broken w.text → Sends mid after broken answer (memory_in f) Lost
-      → PrintsElse (memory_in f) (IsGenerateOutput f settings first count input) before after broken answer
+      → SendsOne (IsGenerateOutput f settings first count input) before after broken answer
   cut_prints why w lines s = record {
     text = w.text ++ memory_in f;
     status = Lost;
-    lawful = inl (cut_short m trees w.some w.text w.worst holds w.within w.lines refl refl);
+    lawful = cut_short m trees w.some w.text w.worst holds w.within w.lines refl refl;
     sent = sends_behind lines s;
   }
 
   pub unwritten_prints : {after : Option (List ℕ)} {broken : Bool}
       → AreCutShort f (plan_of m settings) first count Accepted before after broken cut.Unwritten
-      → PrintsElse (memory_in f) (IsGenerateOutput f settings first count input) before after broken Lost
+      → SendsOne (IsGenerateOutput f settings first count input) before after broken Lost
   unwritten_prints w = record {
     text = w.text ++ memory_in f;
     status = Lost;
-    lawful = inl (cut_short m trees w.some w.text w.worst holds w.within w.lines refl refl);
+    lawful = cut_short m trees w.some w.text w.worst holds w.within w.lines refl refl;
     sent = inr (part_of_more (memory_in f) w.written.0, w.written.1, refl);
   }
 
   -- the lines so far were written, and that an allocation failed
   pub unread_prints : {mid after : Option (List ℕ)} {mid_broken broken : Bool} {answer : Status}
       → AreCutShort f (plan_of m settings) first count Accepted before mid mid_broken cut.Unread
-      → Sends mid after broken answer (memory_in f) Lost → PrintsElse (memory_in f) (IsGenerateOutput f settings first count input) before after broken answer
+      → Sends mid after broken answer (memory_in f) Lost → SendsOne (IsGenerateOutput f settings first count input) before after broken answer
   unread_prints w s = cut_prints cut.Unread w w.written s
 
   pub no_memory_prints : {mid after : Option (List ℕ)} {mid_broken broken : Bool} {answer : Status}
       → AreCutShort f (plan_of m settings) first count Accepted before mid mid_broken cut.NoMemory
-      → Sends mid after broken answer (memory_in f) Lost → PrintsElse (memory_in f) (IsGenerateOutput f settings first count input) before after broken answer
+      → Sends mid after broken answer (memory_in f) Lost → SendsOne (IsGenerateOutput f settings first count input) before after broken answer
   no_memory_prints w s = cut_prints cut.NoMemory w w.written s

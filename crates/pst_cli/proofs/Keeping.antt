@@ -2,7 +2,7 @@
 use Rattle.std.proofs.Common.{ℕ, List}
 use Rattle.pst_case.specs.declared.case.Case.{Case}
 use Rattle.pst_cli.specs.RunOutput.{IsReported, driven, invalid, lost}
-use Rattle.pst_cli.specs.declared.output.Status.{Status}
+use Rattle.pst_cli.specs.declared.answer.Status.{Status}
 use Rattle.pst_driver.proofs.Widening.{driven_wider, drive_fault_wider}
 use Rattle.pst_model.specs.declared.model.Source.{Source}
 use Rattle.pst_system.specs.Kept.{Answers, Fails, ResetFails, AreKept}

@@ -3,15 +3,24 @@ use Rattle.std.proofs.Common.{◌≡◌, ◌+◌, ◌++◌, ℕ, Bool, true, fal
 use Rattle.std.specs.Prelude.{◌&&◌, if◌then◌else◌}
 use Rattle.std.specs.List.{AllZip, list_all}
 use Rattle.pst_case.specs.declared.history.Run.{Run}
-use Rattle.pst_cli.specs.KeepingOn.{KeepsJudgements, answered, answer_lines, worst_status}
+use Rattle.pst_cli.specs.Answering.{refusal_of}
+use Rattle.pst_cli.specs.Answers.{shown_results}
+use Rattle.pst_cli.specs.Commands.{each_answer}
+use Rattle.pst_cli.specs.JsonOutput as object
+use Rattle.pst_cli.specs.KeepingOn.{HoldsAnswers, KeepsJudgements, answered, answer_lines, refused, worst_status}
 use Rattle.pst_cli.specs.Output.{AreJudged, is_good, item_line, item_lines}
 use Rattle.pst_cli.specs.Status.{or_worse}
-use Rattle.pst_cli.specs.declared.output.Status.{Status}
-use Rattle.pst_cli.specs.declared.output.Status.TheVariants.{Accepted, Failed}
+use Rattle.pst_cli.specs.declared.answer.OutputForm.{OutputForm}
+use Rattle.pst_cli.specs.declared.answer.OutputForm.TheVariants as form
+use Rattle.pst_cli.specs.declared.answer.Status.{Status}
+use Rattle.pst_cli.specs.declared.answer.Status.TheVariants.{Accepted, Failed, Refused}
+use Rattle.pst_cli.specs.declared.lines.Shown.{Shown}
 use Rattle.pst_rejudge.specs.Answers.{IsAnswer}
+use Rattle.pst_rejudge.specs.declared.reading.ItemResult.{ItemResult}
 use Rattle.pst_rejudge.specs.declared.reading.ItemResult.TheVariants as answer
 use Rattle.pst_judge.specs.declared.judgement.Judged.{Judged}
-use Rattle.pst_typing.specs.Loading.{items_of}
+use Rattle.pst_typing.specs.Loading.{IsRefusal, items_of}
+use Rattle.pst_typing.specs.declared.loading.Refusal.{Refusal}
 use Rattle.pst_model.specs.declared.model.Source.{Source}
 use Rattle.pst_runs.specs.Items.{item_of, numbered, runs_from}
 use Rattle.pst_runs.specs.Replies.{◌>>=◌, then_more}
@@ -90,3 +99,16 @@ pub keeps : KeepsJudgements
 keeps input m trees runs js h r a =
     answered m trees (map answer.Judged js) h (all_answered m 1 (items_of trees) runs js r a) (lines 1 js)
     (sym (worst_accepted js))
+
+-- ---- what is written of all items, in a form
+
+pub each_answered : (form : OutputForm) (which : Shown) (input : List ℕ) (m : Source) (trees : List Form) (answers : List ItemResult)
+    (text : List ℕ) (status : Status) → HoldsAnswers input m trees answers
+    → text ≡ shown_results form which answers → status ≡ worst_status Accepted answers → each_answer form which input text status
+each_answered form.Text which input m trees answers text status h t s = answered m trees answers h.holds h.answered t s
+each_answered form.Json which input m trees answers text status h t s = object.answered m trees answers h.holds h.answered t s
+
+pub each_refused : (form : OutputForm) (which : Shown) (input : List ℕ) (refusal : Refusal) (text : List ℕ) (status : Status)
+    → IsRefusal input refusal → text ≡ refusal_of form refusal → status ≡ Refused → each_answer form which input text status
+each_refused form.Text which input refusal text status h t s = refused refusal h t s
+each_refused form.Json which input refusal text status h t s = object.refused refusal h t s

@@ -1,7 +1,8 @@
 pub mod Campaigning
+pub mod Driving
 pub mod Generated
 pub mod Graphs
-pub mod Judging
+pub mod JudgedRuns
 pub mod Keeping
 pub mod KeepingOn
 pub mod OneOutput

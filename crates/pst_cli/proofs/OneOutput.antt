@@ -10,8 +10,8 @@ use Rattle.pst_cli.specs.Output as output
 use Rattle.pst_cli.specs.OneOutput.{OneCheckOutput, OneJudgeOutput}
 use Rattle.pst_typing.specs.declared.loading.Refusal.{Refusal}
 use Rattle.pst_typing.specs.declared.loading.Refusal.TheVariants.{Unread, NoModel, IllTyped}
-use Rattle.pst_cli.specs.declared.output.Status.{Status}
-use Rattle.pst_cli.specs.declared.output.Status.TheVariants.{Accepted, Failed}
+use Rattle.pst_cli.specs.declared.answer.Status.{Status}
+use Rattle.pst_cli.specs.declared.answer.Status.TheVariants.{Accepted, Failed}
 use Rattle.pst_judge.specs.JudgedText.{judged_text, why_text, case_fault_text}
 use Rattle.pst_judge.specs.Same.{SameVerdict, SameWhy, SameJudgement, OneJudgement}
 use Rattle.pst_judge.specs.VerdictText.{verdict_text, word_text, fault_text}

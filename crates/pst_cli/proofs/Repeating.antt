@@ -1,14 +1,15 @@
 -- Drives of a case, one after another, and the reports of items.
-use Rattle.std.proofs.Common.{◌≡◌, ◌≢◌, ◌≤◌, ◌<◌, ◌∙◌, ℕ, zero, suc, ◌+◌, Bool, true, false, List, [], ◌∷◌, ◌++◌, Option, Some, None, length, length-append, get_or, take, drop, refl, sym, ap, subst, arith}
+use Rattle.std.proofs.Common.{◌≡◌, ◌≢◌, ◌≤◌, ◌<◌, ◌∙◌, ℕ, zero, suc, ◌+◌, Bool, true, false, List, [], ◌∷◌, ◌++◌, Option, Some, None, length, length-append, get_or, take, refl, sym, ap, subst, arith}
 use Rattle.std.specs.Prelude.{if◌then◌else◌}
 use Rattle.pst_case.specs.declared.case.Case.{Case}
 use Rattle.pst_case.specs.declared.history.Run.{Run}
 use Rattle.pst_cli.proofs.Keeping.{reported_before}
-use Rattle.pst_cli.specs.RepeatOutput.{AreDriven, AreRepeated, IsRepeated, repeated, invalid, lost, drives_line, failed_of, is_accepted, shown_after, shown_of}
+use Rattle.pst_cli.specs.RepeatOutput.{AreDriven, AreRepeated, IsRepeatOutput, IsRepeated, refused, run_refused, repeated, invalid, lost, drives_line, failed_of, is_accepted, shown_after, shown_of}
+use Rattle.pst_cli.specs.Output.{IsFirstRefusal, of_item, of_model}
 use Rattle.pst_cli.specs.RunOutput.{IsReported}
-use Rattle.pst_cli.specs.declared.output.Output.{Output}
-use Rattle.pst_cli.specs.declared.output.Status.{Status}
-use Rattle.pst_cli.specs.declared.output.Status.TheVariants.{Lost}
+use Rattle.pst_cli.specs.declared.answer.Output.{Output}
+use Rattle.pst_cli.specs.declared.answer.Status.{Status}
+use Rattle.pst_cli.specs.declared.answer.Status.TheVariants.{Lost}
 use Rattle.pst_judge.specs.Validity.{IsValid}
 use Rattle.pst_model.specs.declared.model.Source.{Source}
 use Rattle.pst_system.specs.Kept.{Answers, Fails, ResetFails, AreKept}
@@ -118,3 +119,9 @@ repeated_before m repeats number c text status k (repeated is reports count driv
 repeated_before m repeats number c text status k (invalid why reason lines ending) = invalid why reason lines ending
 repeated_before m repeats number c text status k (lost report ending) =
     lost (reported_before m number c text status k report) ending
+
+-- the first refusal of an input is an output of `pst run --repeats`
+pub refused_repeats : (A : Answers) (F : Fails) (R : ResetFails) (repeats : ℕ) (input text : List ℕ) (status : Status)
+    → IsFirstRefusal input text status → IsRepeatOutput A F R repeats input text status
+refused_repeats A F R repeats input text status (of_model refusal h t s) = refused refusal h t s
+refused_repeats A F R repeats input text status (of_item m trees fault h e t s) = run_refused m trees fault h e t s

@@ -8,14 +8,14 @@ use Rattle.pst_case.specs.Matches.{matches}
 use Rattle.pst_case.specs.OfModel.{OfModel}
 use Rattle.pst_case.specs.declared.history.History.{History}
 use Rattle.pst_cli.specs.ItemReports.{IsItemReport, IsRunReport, report_status, report_text}
-use Rattle.pst_cli.specs.Output.{item_line}
-use Rattle.pst_cli.specs.RunOutput.{IsReported, AreReported, run_with, driven, invalid, lost, none, next}
+use Rattle.pst_cli.specs.Output.{IsFirstRefusal, item_line, of_item, of_model}
+use Rattle.pst_cli.specs.RunOutput.{IsReported, AreReported, IsRunOutput, run_with, driven, invalid, lost, none, next, refused, run_refused}
 use Rattle.pst_cli.specs.declared.item_report.ItemReport.{ItemReport}
 use Rattle.pst_cli.specs.declared.item_report.ItemReport.TheVariants as became
 use Rattle.pst_driver.specs.Driven.{IsDriven}
 use Rattle.pst_judge.specs.Validity.{IsValid}
 use Rattle.pst_cli.specs.Status.{or_worse}
-use Rattle.pst_cli.specs.declared.output.Status.{Status}
+use Rattle.pst_cli.specs.declared.answer.Status.{Status}
 use Rattle.pst_model.specs.declared.model.Source.{Source}
 use Rattle.pst_system.specs.Kept.{Answers, Fails, ResetFails}
 
@@ -52,7 +52,7 @@ module _ (m : Source) (A : Answers) (F : Fails) (R : ResetFails) (runs : List Ru
 pub driven_item : {E : Type 0} (m : Source) (A : Answers) (F : Fails) (R : ResetFails) (v : OfModel) (h : History)
     → v.model ≡ m → IsValid v.model v.case → matches m v.case h ≡ true → IsDriven m A F v.case h
     → (r : Result ItemReport E) → IfOk r (IsRunReport m (run_with v h)) → IfOk r (IsItemReport m A F R v.case)
-driven_item m A F R v h e valid same real (Err refused) is = tt
+driven_item m A F R v h e valid same real (Err x) is = tt
 driven_item m A F R v h e valid same real (Ok (became.Invalid why)) is = absurd is
 driven_item m A F R v h e valid same real (Ok (became.Lost fault)) is = absurd is
 driven_item m A F R v h e valid same real (Ok (became.Driven line judged)) is =
@@ -71,3 +71,9 @@ reported_so m A F R number c (became.Driven line judged) text status is t s =
     (record { judged = judged; judgement = is.judgement; lines = t ∙ ap (λ l. l ++ item_line number judged) so; ending = s })
 reported_so m A F R number c (became.Invalid why) text status is t s = invalid why is t s
 reported_so m A F R number c (became.Lost fault) text status is t s = lost is.0 fault is.1 t s
+
+-- the first refusal of an input is an output of `pst run`
+pub refused_run : (A : Answers) (F : Fails) (R : ResetFails) (input text : List ℕ) (status : Status) → IsFirstRefusal input text status
+    → IsRunOutput A F R input text status
+refused_run A F R input text status (of_model refusal h t s) = refused refusal h t s
+refused_run A F R input text status (of_item m trees fault h e t s) = run_refused m trees fault h e t s

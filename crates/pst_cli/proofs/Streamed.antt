@@ -1,13 +1,13 @@
 -- What is written of a stream is its output.
-use Rattle.std.proofs.Common.{◌≡◌, ◌∙◌, ◌⊎◌, inl, inr, ℕ, Bool, List, [], ◌∷◌, ◌++◌, Option, Some, refl, sym, ap, subst, append_assoc}
+use Rattle.std.proofs.Common.{◌≡◌, ◌∙◌, inl, inr, ℕ, Bool, List, ◌++◌, Option, Some, refl, sym, ap, subst, append_assoc}
 use Rattle.std.proofs.KnownBytes.{Appends-trans}
 use Rattle.std.specs.List.{AllZip}
 use Rattle.pst_cli.specs.KeepingOn.{answer_lines}
-use Rattle.pst_cli.specs.Sending.{Prints, Sends, memory_line}
+use Rattle.pst_cli.specs.Sending.{Sends, SendsOne, memory_line}
 use Rattle.pst_cli.specs.StreamOutput.{IsCutLine, IsStreamOutput, whole, cut as cut_short}
 use Rattle.pst_cli.specs.Streaming.{IsCutShort, IsWhole}
-use Rattle.pst_cli.specs.declared.output.Status.{Status}
-use Rattle.pst_cli.specs.declared.output.Status.TheVariants.{Lost}
+use Rattle.pst_cli.specs.declared.answer.Status.{Status}
+use Rattle.pst_cli.specs.declared.answer.Status.TheVariants.{Lost}
 use Rattle.pst_cli.specs.declared.stream.Cut.{Cut}
 use Rattle.pst_cli.specs.declared.stream.Cut.TheVariants as cut
 use Rattle.pst_model.specs.declared.model.Source.{Source}
@@ -50,12 +50,12 @@ part_of_more two v = record {
 module _ (input bytes : List ℕ) (m : Source) (trees : List Form) (holds : Holds input m trees) (stream before : Option (List ℕ))
     (known : stream ≡ Some bytes) where
   pub whole_prints : {after : Option (List ℕ)} {broken : Bool} {status : Status} → IsWhole m stream before after broken status
-      → Prints (IsStreamOutput input bytes) before after broken status
+      → SendsOne (IsStreamOutput input bytes) before after broken status
   whole_prints {after} {broken} {status} w = record {
     text = answer_lines 1 w.answers;
     status = status;
-    lawful = inl (whole m trees w.answers holds
-        (subst (λ ls. AllZip (IsLineAnswer m) ls w.answers) (sym (w.whole bytes known)) w.answered) refl w.worst);
+    lawful = whole m trees w.answers holds
+        (subst (λ ls. AllZip (IsLineAnswer m) ls w.answers) (sym (w.whole bytes known)) w.answered) refl w.worst;
     sent = inl (w.written, refl);
   }
 
@@ -63,31 +63,31 @@ module _ (input bytes : List ℕ) (m : Source) (trees : List Form) (holds : Hold
   cut_prints : {mid after : Option (List ℕ)} {mid_broken broken : Bool} {answer : Status} (why : Cut) (line : List ℕ) (status : Status)
       → IsCutLine line status → (w : IsCutShort m stream before mid mid_broken why)
       → WritesAll before mid mid_broken (answer_lines 1 w.answers)
-      → Sends mid after broken answer line status → Prints (IsStreamOutput input bytes) before after broken answer
+      → Sends mid after broken answer line status → SendsOne (IsStreamOutput input bytes) before after broken answer
   cut_prints why line status is w lines s = record {
     text = answer_lines 1 w.answers ++ line;
     status = status;
-    lawful = inl (cut_short m trees w.first (w.front bytes known).0 w.answers line holds (w.front bytes known).1 w.answered is refl);
+    lawful = cut_short m trees w.first (w.front bytes known).0 w.answers line holds (w.front bytes known).1 w.answered is refl;
     sent = sends_behind lines s;
   }
 
   pub unread_prints : {mid after : Option (List ℕ)} {mid_broken broken : Bool} {answer : Status} (line : List ℕ) (status : Status)
       → IsCutLine line status → IsCutShort m stream before mid mid_broken cut.Unread
-      → Sends mid after broken answer line status → Prints (IsStreamOutput input bytes) before after broken answer
+      → Sends mid after broken answer line status → SendsOne (IsStreamOutput input bytes) before after broken answer
   unread_prints line status is w s = cut_prints cut.Unread line status is w w.written s
 
   pub no_memory_prints : {mid after : Option (List ℕ)} {mid_broken broken : Bool} {answer : Status} (line : List ℕ) (status : Status)
       → IsCutLine line status → IsCutShort m stream before mid mid_broken cut.NoMemory
-      → Sends mid after broken answer line status → Prints (IsStreamOutput input bytes) before after broken answer
+      → Sends mid after broken answer line status → SendsOne (IsStreamOutput input bytes) before after broken answer
   no_memory_prints line status is w s = cut_prints cut.NoMemory line status is w w.written s
 
   -- a beginning of the first lines was written
   pub unwritten_prints : {after : Option (List ℕ)} {broken : Bool} → IsCutShort m stream before after broken cut.Unwritten
-      → Prints (IsStreamOutput input bytes) before after broken Lost
+      → SendsOne (IsStreamOutput input bytes) before after broken Lost
   unwritten_prints w = record {
     text = answer_lines 1 w.answers ++ memory_line;
     status = Lost;
-    lawful = inl (cut_short m trees w.first (w.front bytes known).0 w.answers memory_line holds (w.front bytes known).1 w.answered
-        (inr (refl, refl)) refl);
+    lawful = cut_short m trees w.first (w.front bytes known).0 w.answers memory_line holds (w.front bytes known).1 w.answered
+        (inr (refl, refl)) refl;
     sent = inr (part_of_more memory_line w.written.0, w.written.1, refl);
   }

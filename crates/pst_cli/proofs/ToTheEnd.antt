@@ -1,15 +1,14 @@
 -- A campaign that does not end early has the output of one whose trials all run.
-use Rattle.std.proofs.Common.{◌≡◌, ◌⊎◌, inl, inr, ℕ, suc, Bool, true, false, List, [], ◌∷◌, Option, Some, refl, ap, sym, ◌∙◌, subst}
+use Rattle.std.proofs.Common.{◌≡◌, ◌⊎◌, inl, inr, ℕ, suc, Bool, true, false, List, [], ◌∷◌, Option, Some, refl, ap, sym, ◌∙◌}
 use Rattle.std.proofs.Math.Bool.{or-false, and-true}
 use Rattle.std.specs.Prelude.{slice_get, not, if◌then◌else◌, ◌&&◌, ◌||◌}
 use Rattle.std.specs.List.{list_any}
 use Rattle.pst_campaign.specs.Entries.{MayGive}
-use Rattle.pst_campaign.specs.Working.{AllGiven, AllGivenUnless}
 use Rattle.pst_campaign.proofs.Given.{all_given_to_the_end}
 use Rattle.pst_cli.specs.CampaignOutput.{Gives, plan_of, status_after, IsOutputFor, reported, not_started, IsCampaignOutput, accepted, refused}
 use Rattle.pst_cli.specs.EarlyOutput.{IsEarlyOutputFor, ended, not_begun, IsEarlyOutput, loaded, not_loaded}
 use Rattle.pst_cli.specs.Sending.{Prints}
-use Rattle.pst_cli.specs.declared.output.Status.{Status}
+use Rattle.pst_cli.specs.declared.answer.Status.{Status}
 use Rattle.pst_judge.specs.declared.judgement.Verdict.{Verdict}
 use Rattle.pst_judge.specs.declared.judgement.Verdict.TheVariants as verdict
 use Rattle.pst_ledger.specs.declared.entry.Entry.{Entry}
@@ -18,7 +17,6 @@ use Rattle.pst_model.specs.declared.model.Source.{Source}
 use Rattle.pst_report.specs.Kinds.{kind_of_verdict, kind_of_outcome, own_failure, is_same}
 use Rattle.pst_report.specs.Status.{is_missing, is_failed, is_lost, is_undrawn, did_not_pass, campaign_status, ended_status}
 use Rattle.pst_report.specs.declared.status.EntryKind.TheVariants as kind
-use Rattle.pst_report.specs.declared.status.CampaignStatus.{CampaignStatus}
 use Rattle.pst_report.specs.declared.status.CampaignStatus.TheVariants.{Passed, Failed, Incomplete}
 use Rattle.pst_system.specs.Kept.{Answers, Fails, ResetFails}
 use Rattle.pst_trial.specs.PlanView.{PlanView}

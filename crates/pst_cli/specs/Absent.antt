@@ -4,8 +4,8 @@ use Rattle.pst_cli.specs.Head.{line_end}
 use Rattle.pst_cli.specs.Sending.{memory_line}
 use Rattle.pst_cli.specs.declared.absent.Absence.{Absence}
 use Rattle.pst_cli.specs.declared.absent.Absence.TheVariants.{NoFile, NoSystem, NoMemory}
-use Rattle.pst_cli.specs.declared.output.Status.{Status}
-use Rattle.pst_cli.specs.declared.output.Status.TheVariants.{Refused, Lost}
+use Rattle.pst_cli.specs.declared.answer.Status.{Status}
+use Rattle.pst_cli.specs.declared.answer.Status.TheVariants.{Refused, Lost}
 
 abbrev pub absence_line : Absence → List ℕ
 absence_line NoFile = codes "refused file" ++ line_end

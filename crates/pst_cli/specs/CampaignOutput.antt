@@ -6,8 +6,8 @@ use Rattle.pst_campaign.specs.Working.{AllGiven, HasWorkers, IsCampaignFault}
 use Rattle.pst_campaign.specs.declared.campaigns.CampaignFault.{CampaignFault}
 use Rattle.pst_campaign.specs.declared.campaigns.CampaignFault.TheVariants.{NoMemory}
 use Rattle.pst_cli.specs.Head.{refusal_line, line_end}
-use Rattle.pst_cli.specs.declared.output.Status.{Status}
-use Rattle.pst_cli.specs.declared.output.Status.TheVariants.{Accepted, Failed, Refused, Lost}
+use Rattle.pst_cli.specs.declared.answer.Status.{Status}
+use Rattle.pst_cli.specs.declared.answer.Status.TheVariants.{Accepted, Failed, Refused, Lost}
 use Rattle.pst_ledger.specs.declared.entry.Entry.{Entry}
 use Rattle.pst_model.specs.declared.model.Source.{Source}
 use Rattle.pst_report.specs.Status.{campaign_status}

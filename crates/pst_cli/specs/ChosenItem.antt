@@ -2,8 +2,8 @@
 use Rattle.std.specs.Prelude.{◌≡◌, ◌≤◌, ℕ, List, ◌++◌, length, codes, decimal}
 use Rattle.pst_cli.specs.Head.{line_end}
 use Rattle.pst_cli.specs.Output.{status_of}
-use Rattle.pst_cli.specs.declared.output.Status.{Status}
-use Rattle.pst_cli.specs.declared.output.Status.TheVariants.{Refused}
+use Rattle.pst_cli.specs.declared.answer.Status.{Status}
+use Rattle.pst_cli.specs.declared.answer.Status.TheVariants.{Refused}
 use Rattle.pst_judge.specs.declared.judgement.Judged.{Judged}
 
 -- there is an item of the number

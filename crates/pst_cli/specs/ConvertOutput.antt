@@ -4,8 +4,8 @@ use Rattle.pst_case.specs.declared.history.Run.{Run}
 use Rattle.pst_cli.specs.Output.{HoldsRuns, IsFirstRefusal}
 use Rattle.pst_cli.specs.declared.model_commands.ItemForm.{ItemForm}
 use Rattle.pst_cli.specs.declared.model_commands.ItemForm.TheVariants as form
-use Rattle.pst_cli.specs.declared.output.Status.{Status}
-use Rattle.pst_cli.specs.declared.output.Status.TheVariants.{Accepted}
+use Rattle.pst_cli.specs.declared.answer.Status.{Status}
+use Rattle.pst_cli.specs.declared.answer.Status.TheVariants.{Accepted}
 use Rattle.pst_json_runs.specs.Written.{json_line}
 use Rattle.pst_model.specs.declared.model.Source.{Source}
 use Rattle.pst_runs.specs.Lines.{line_of}

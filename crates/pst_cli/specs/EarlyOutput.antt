@@ -5,8 +5,8 @@ use Rattle.pst_campaign.specs.declared.campaigns.CampaignFault.{CampaignFault}
 use Rattle.pst_campaign.specs.declared.campaigns.CampaignFault.TheVariants.{NoMemory}
 use Rattle.pst_cli.specs.CampaignOutput.{Gives, plan_of, campaign_line, status_after}
 use Rattle.pst_cli.specs.Head.{refusal_line}
-use Rattle.pst_cli.specs.declared.output.Status.{Status}
-use Rattle.pst_cli.specs.declared.output.Status.TheVariants.{Refused, Lost}
+use Rattle.pst_cli.specs.declared.answer.Status.{Status}
+use Rattle.pst_cli.specs.declared.answer.Status.TheVariants.{Refused, Lost}
 use Rattle.pst_ledger.specs.declared.entry.Entry.{Entry}
 use Rattle.pst_model.specs.declared.model.Source.{Source}
 use Rattle.pst_report.specs.Status.{ended_status}

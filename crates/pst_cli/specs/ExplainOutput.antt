@@ -5,7 +5,7 @@ use Rattle.pst_cli.specs.ChosenItem.{IsOfItem}
 use Rattle.pst_cli.specs.Output.{IsOutput, status_of}
 use Rattle.pst_cli.specs.declared.explain.ChosenItems.{ChosenItems}
 use Rattle.pst_cli.specs.declared.explain.ChosenItems.TheVariants as chosen
-use Rattle.pst_cli.specs.declared.output.Status.{Status}
+use Rattle.pst_cli.specs.declared.answer.Status.{Status}
 use Rattle.pst_judge.specs.declared.judgement.Judged.{Judged}
 
 -- a text, of which nothing is said, with the status of the judgements; or the refusal of an item that there

@@ -1,19 +1,19 @@
 -- The output of `pst generate`: a text and a status, for the form, the input with the model, the settings of the trials, and their
 -- numbers.
-use Rattle.std.specs.Prelude.{◌≡◌, ℕ, ◌+◌, ◌≤◌, List, [], ◌∷◌, ◌++◌, Ok, Err, None, length, codes, decimal}
+use Rattle.std.specs.Prelude.{◌≡◌, ℕ, ◌+◌, ◌≤◌, List, [], ◌∷◌, ◌++◌, Ok, Err, None, codes, decimal}
 use Rattle.pst_case.specs.declared.case.Case.{Case}
 use Rattle.pst_case.specs.declared.history.Run.{Run}
+use Rattle.pst_cli.specs.Answering.{memory_of, refusal_of}
 use Rattle.pst_cli.specs.CampaignOutput.{plan_of}
 use Rattle.pst_cli.specs.ConvertOutput.{line_in}
-use Rattle.pst_cli.specs.Head.{refusal_line, line_end}
-use Rattle.pst_cli.specs.JsonOutput.{memory_object, refusal_object}
-use Rattle.pst_cli.specs.Sending.{memory_line}
+use Rattle.pst_cli.specs.Head.{line_end}
 use Rattle.pst_cli.specs.Status.{or_worse}
+use Rattle.pst_cli.specs.declared.answer.OutputForm.{OutputForm}
+use Rattle.pst_cli.specs.declared.answer.OutputForm.TheVariants as output
 use Rattle.pst_cli.specs.declared.model_commands.ItemForm.{ItemForm}
 use Rattle.pst_cli.specs.declared.model_commands.ItemForm.TheVariants as form
-use Rattle.pst_cli.specs.declared.output.Output.{Output}
-use Rattle.pst_cli.specs.declared.output.Status.{Status}
-use Rattle.pst_cli.specs.declared.output.Status.TheVariants.{Accepted, Failed, Refused, Lost}
+use Rattle.pst_cli.specs.declared.answer.Status.{Status}
+use Rattle.pst_cli.specs.declared.answer.Status.TheVariants.{Accepted, Failed, Refused, Lost}
 use Rattle.pst_eval.specs.Places.{callback_name}
 use Rattle.pst_eval.specs.declared.callbacks.FaultPlace.{FaultPlace}
 use Rattle.pst_rejudge.specs.Objects.{object_line}
@@ -49,15 +49,14 @@ abbrev pub fault_line : ItemForm → ℕ → FaultPlace → List ℕ
 fault_line form.Trees number place = genfault_line number place
 fault_line form.Json number place = object_line (genfault_fields number place)
 
--- the refusal of the model, on its line
-abbrev pub refusal_in : ItemForm → Refusal → List ℕ
-refusal_in form.Trees refusal = refusal_line refusal
-refusal_in form.Json refusal = refusal_object refusal
+-- the form of refusals beside items in a form
+abbrev pub form_beside : ItemForm → OutputForm
+form_beside form.Trees = output.Text
+form_beside form.Json = output.Json
 
 -- what is written if an allocation fails
 abbrev pub memory_in : ItemForm → List ℕ
-memory_in form.Trees = memory_line
-memory_in form.Json = memory_object
+memory_in f = memory_of (form_beside f)
 
 -- the case of the trial of a number in the form, on one line; or the fault for which it has none
 pub data IsCaseLine (f : ItemForm) (p : PlanView) (number : ℕ) (text : List ℕ) (status : Status) : Type 0 where
@@ -85,5 +84,5 @@ pub data IsGenerateOutput (f : ItemForm) (settings : Settings) (first count : �
       → AreCaseLines f (plan_of m settings) first some Accepted lines worst
       → text ≡ lines ++ memory_in f → status ≡ Lost
       → IsGenerateOutput f settings first count input text status
-  refused : (refusal : Refusal) → IsRefusal input refusal → text ≡ refusal_in f refusal → status ≡ Refused
+  refused : (refusal : Refusal) → IsRefusal input refusal → text ≡ refusal_of (form_beside f) refusal → status ≡ Refused
       → IsGenerateOutput f settings first count input text status

@@ -1,14 +1,23 @@
 -- What is written of cases, block by block.
 use Rattle.std.specs.Prelude.{◌≡◌, ℕ, ◌≤◌, Bool, List, Option, Result, MatchResult}
 use Rattle.pst_cli.specs.GenerateOutput.{IsCaseLine, AreCaseLines}
-use Rattle.pst_cli.specs.Streaming.{IsUnwritten, IsWrittenTo}
+use Rattle.pst_cli.specs.Streaming.{IsWrittenTo}
 use Rattle.pst_cli.specs.declared.model_commands.ItemForm.{ItemForm}
-use Rattle.pst_cli.specs.declared.output.Output.{Output}
-use Rattle.pst_cli.specs.declared.output.Status.{Status}
-use Rattle.pst_cli.specs.declared.output.Status.TheVariants.{Accepted}
+use Rattle.pst_cli.specs.declared.answer.Output.{Output}
+use Rattle.pst_cli.specs.declared.answer.Status.{Status}
+use Rattle.pst_cli.specs.declared.answer.Status.TheVariants.{Accepted}
 use Rattle.pst_cli.specs.declared.stream.Cut.{Cut}
 use Rattle.pst_sexpr.specs.Writing.{WritesAll}
+use Rattle.pst_sexpr.specs.declared.form.Form.{Form}
 use Rattle.pst_trial.specs.PlanView.{PlanView}
+use Rattle.pst_trial.specs.declared.plan.Settings.{Settings}
+use Rattle.pst_typing.specs.Loading.{Holds}
+
+-- the plan is that of the model that the input holds, with these settings
+pub record IsPlanOf (input : List ℕ) (settings : Settings) (p : PlanView) : Type 0 where
+  pub trees : List Form
+  pub holds : Holds input p.model trees
+  pub settings_are : p.settings ≡ settings
 
 -- the output is the line of a number
 abbrev pub IsLineOf : ItemForm → PlanView → ℕ → Output → Type 0

@@ -3,7 +3,7 @@
 use Rattle.std.specs.Prelude.{ℕ, ◌+◌, if◌then◌else◌, List, [], ◌∷◌, Option, Some, None}
 use Rattle.pst_cli.specs.ChosenItem.{IsOfItem}
 use Rattle.pst_cli.specs.Output.{IsOutput, is_good}
-use Rattle.pst_cli.specs.declared.output.Status.{Status}
+use Rattle.pst_cli.specs.declared.answer.Status.{Status}
 use Rattle.pst_judge.specs.declared.judgement.Judged.{Judged}
 
 -- the number of the first item that is neither explained nor valid, where the first of these has this number;

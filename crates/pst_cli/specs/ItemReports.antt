@@ -8,8 +8,8 @@ use Rattle.pst_cli.specs.Output.{item_line}
 use Rattle.pst_cli.specs.RunOutput.{lost_line, run_with, status_of_one}
 use Rattle.pst_cli.specs.declared.item_report.ItemReport.{ItemReport}
 use Rattle.pst_cli.specs.declared.item_report.ItemReport.TheVariants as became
-use Rattle.pst_cli.specs.declared.output.Status.{Status}
-use Rattle.pst_cli.specs.declared.output.Status.TheVariants as status
+use Rattle.pst_cli.specs.declared.answer.Status.{Status}
+use Rattle.pst_cli.specs.declared.answer.Status.TheVariants as status
 use Rattle.pst_driver.specs.Driven.{IsDriven, IsDriveFault}
 use Rattle.pst_judge.specs.Judgement.{IsJudgement}
 use Rattle.pst_judge.specs.Validity.{IsValid, IsWhy}

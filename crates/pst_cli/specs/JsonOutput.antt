@@ -5,8 +5,8 @@ use Rattle.pst_cli.specs.Head.{line_end}
 use Rattle.pst_cli.specs.KeepingOn.{is_good_answer, worst_status}
 use Rattle.pst_cli.specs.declared.lines.Shown.{Shown}
 use Rattle.pst_cli.specs.declared.lines.Shown.TheVariants as shown
-use Rattle.pst_cli.specs.declared.output.Status.{Status}
-use Rattle.pst_cli.specs.declared.output.Status.TheVariants.{Accepted, Refused}
+use Rattle.pst_cli.specs.declared.answer.Status.{Status}
+use Rattle.pst_cli.specs.declared.answer.Status.TheVariants.{Accepted, Refused}
 use Rattle.pst_rejudge.specs.Answers.{IsAnswer}
 use Rattle.pst_rejudge.specs.declared.reading.ItemResult.{ItemResult}
 use Rattle.pst_rejudge.specs.declared.reading.ItemResult.TheVariants as answer

@@ -1,7 +1,9 @@
 -- what the public contracts cite
 pub mod Absent
+pub mod Answering
 pub mod CampaignOutput
 pub mod ChosenItem
+pub mod Commands
 pub mod ConvertOutput
 pub mod EarlyOutput
 pub mod ExplainOutput
@@ -21,6 +23,7 @@ pub mod StreamOutput
 -- what these are made of
 pub mod Head
 -- what the contracts within the crate cite
+pub mod Answers
 pub mod Generating
 pub mod ItemReports
 pub mod Kept

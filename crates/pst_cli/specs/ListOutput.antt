@@ -1,8 +1,8 @@
 -- The output of `pst list`: a text and a status, for an input.
 use Rattle.std.specs.Prelude.{◌≡◌, ℕ, List}
 use Rattle.pst_cli.specs.Head.{refusal_line}
-use Rattle.pst_cli.specs.declared.output.Status.{Status}
-use Rattle.pst_cli.specs.declared.output.Status.TheVariants.{Accepted, Refused}
+use Rattle.pst_cli.specs.declared.answer.Status.{Status}
+use Rattle.pst_cli.specs.declared.answer.Status.TheVariants.{Accepted, Refused}
 use Rattle.pst_compile.specs.Functions.{listing_of}
 use Rattle.pst_model.specs.declared.model.Source.{Source}
 use Rattle.pst_sexpr.specs.declared.form.Form.{Form}

@@ -1,7 +1,7 @@
 -- An input has one output.
 use Rattle.std.specs.Prelude.{◌≡◌, ℕ, List}
 use Rattle.pst_cli.specs.Output.{IsCheckOutput, IsJudgeOutput}
-use Rattle.pst_cli.specs.declared.output.Status.{Status}
+use Rattle.pst_cli.specs.declared.answer.Status.{Status}
 
 -- the definition of `pst check` has one text and one status for an input, at most
 abbrev pub OneCheckOutput : Type 0

@@ -7,8 +7,8 @@ use Rattle.pst_typing.specs.Loading.{Holds, items_of, IsRefusal}
 use Rattle.pst_typing.specs.declared.loading.Refusal.{Refusal}
 use Rattle.pst_cli.specs.declared.lines.Shown.{Shown}
 use Rattle.pst_cli.specs.declared.lines.Shown.TheVariants as shown
-use Rattle.pst_cli.specs.declared.output.Status.{Status}
-use Rattle.pst_cli.specs.declared.output.Status.TheVariants.{Accepted, Failed, Refused}
+use Rattle.pst_cli.specs.declared.answer.Status.{Status}
+use Rattle.pst_cli.specs.declared.answer.Status.TheVariants.{Accepted, Failed, Refused}
 use Rattle.pst_judge.specs.JudgedText.{judged_text}
 use Rattle.pst_judge.specs.Judgement.{IsJudgement}
 use Rattle.pst_judge.specs.declared.judgement.Judged.{Judged}

@@ -1,8 +1,8 @@
 -- Outputs that are put together.
 use Rattle.std.specs.Prelude.{ℕ, List, [], ◌∷◌, ◌++◌}
 use Rattle.pst_cli.specs.Status.{or_worse}
-use Rattle.pst_cli.specs.declared.output.Output.{Output}
-use Rattle.pst_cli.specs.declared.output.Status.{Status}
+use Rattle.pst_cli.specs.declared.answer.Output.{Output}
+use Rattle.pst_cli.specs.declared.answer.Status.{Status}
 
 -- the texts, one after another
 abbrev pub joined : List Output → List ℕ

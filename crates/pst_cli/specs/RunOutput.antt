@@ -8,8 +8,8 @@ use Rattle.pst_case.specs.declared.history.Run.{Run}
 use Rattle.pst_cli.specs.Head.{refusal_line, line_end}
 use Rattle.pst_cli.specs.Output.{item_line, run_line, is_good}
 use Rattle.pst_cli.specs.Status.{or_worse}
-use Rattle.pst_cli.specs.declared.output.Status.{Status}
-use Rattle.pst_cli.specs.declared.output.Status.TheVariants.{Accepted, Failed, Refused, Lost}
+use Rattle.pst_cli.specs.declared.answer.Status.{Status}
+use Rattle.pst_cli.specs.declared.answer.Status.TheVariants.{Accepted, Failed, Refused, Lost}
 use Rattle.pst_driver.specs.Driven.{IsDriven, IsDriveFault}
 use Rattle.pst_driver.specs.FaultName.{fault_name}
 use Rattle.pst_driver.specs.declared.driving.DriveFault.{DriveFault}

@@ -1,8 +1,8 @@
 -- What is written of an output, and which status is answered.
 use Rattle.std.specs.Prelude.{◌≡◌, ◌⊎◌, ◌++◌, ℕ, Bool, true, List, Option, codes}
 use Rattle.pst_cli.specs.Head.{line_end}
-use Rattle.pst_cli.specs.declared.output.Status.{Status}
-use Rattle.pst_cli.specs.declared.output.Status.TheVariants.{Lost}
+use Rattle.pst_cli.specs.declared.answer.Status.{Status}
+use Rattle.pst_cli.specs.declared.answer.Status.TheVariants.{Lost}
 use Rattle.pst_sexpr.specs.Writing.{WritesAll, WritesPart}
 
 -- the text was written whole, and its status is the answer; or the writer failed, a beginning of the text
@@ -26,10 +26,10 @@ pub record Prints (IsOutput : List ℕ → Status → Type 0) (before after : Op
   pub lawful : IsOutput text status ⊎ ((text ≡ memory_line) × (status ≡ Lost))
   pub sent : Sends before after broken answer text status
 
--- one output was sent, or if an allocation failed these bytes
-pub record PrintsElse (memory : List ℕ) (IsOutput : List ℕ → Status → Type 0) (before after : Option (List ℕ))
-    (broken : Bool) (answer : Status) : Type 0 where
+-- one output was sent
+pub record SendsOne (IsOutput : List ℕ → Status → Type 0) (before after : Option (List ℕ)) (broken : Bool)
+    (answer : Status) : Type 0 where
   pub text : List ℕ
   pub status : Status
-  pub lawful : IsOutput text status ⊎ ((text ≡ memory) × (status ≡ Lost))
+  pub lawful : IsOutput text status
   pub sent : Sends before after broken answer text status

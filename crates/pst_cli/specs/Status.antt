@@ -1,7 +1,7 @@
 -- The exit status of the process.
 use Rattle.std.specs.Prelude.{ℕ, nat_lt, if◌then◌else◌}
-use Rattle.pst_cli.specs.declared.output.Status.{Status}
-use Rattle.pst_cli.specs.declared.output.Status.TheVariants.{Accepted, Failed, Refused, Lost}
+use Rattle.pst_cli.specs.declared.answer.Status.{Status}
+use Rattle.pst_cli.specs.declared.answer.Status.TheVariants.{Accepted, Failed, Refused, Lost}
 
 abbrev pub code_of : Status → ℕ
 code_of Accepted = 0

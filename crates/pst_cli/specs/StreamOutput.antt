@@ -4,8 +4,8 @@ use Rattle.std.specs.List.{AllZip}
 use Rattle.pst_cli.specs.Head.{refusal_line, line_end}
 use Rattle.pst_cli.specs.KeepingOn.{IsKeepingOnOutput, answer_lines, worst_status}
 use Rattle.pst_cli.specs.Sending.{memory_line}
-use Rattle.pst_cli.specs.declared.output.Status.{Status}
-use Rattle.pst_cli.specs.declared.output.Status.TheVariants.{Accepted, Refused, Lost}
+use Rattle.pst_cli.specs.declared.answer.Status.{Status}
+use Rattle.pst_cli.specs.declared.answer.Status.TheVariants.{Accepted, Refused, Lost}
 use Rattle.pst_rejudge.specs.declared.reading.ItemResult.{ItemResult}
 use Rattle.pst_typing.specs.Loading.{Holds, IsRefusal, items_of}
 use Rattle.pst_typing.specs.declared.loading.Refusal.{Refusal}

@@ -2,8 +2,8 @@
 use Rattle.std.specs.Prelude.{◌≡◌, ℕ, ◌+◌, Bool, true, false, List, ◌++◌, length, Option, Some, Result, MatchResult}
 use Rattle.std.specs.List.{AllZip}
 use Rattle.pst_cli.specs.KeepingOn.{answer_lines, worst_status}
-use Rattle.pst_cli.specs.declared.output.Status.{Status}
-use Rattle.pst_cli.specs.declared.output.Status.TheVariants.{Accepted}
+use Rattle.pst_cli.specs.declared.answer.Status.{Status}
+use Rattle.pst_cli.specs.declared.answer.Status.TheVariants.{Accepted}
 use Rattle.pst_cli.specs.declared.stream.Cut.{Cut}
 use Rattle.pst_cli.specs.declared.stream.Cut.TheVariants.{Unread, NoMemory, Unwritten}
 use Rattle.pst_cli.specs.declared.stream.Written.{Written}

@@ -1,10 +1,11 @@
 //! Inputs that cannot be read, and systems that do not exist.
-ghost use Rattle.std.specs.Prelude.{◌≡◌, false};
+ghost use Rattle.std.specs.Prelude.{◌≡◌, true, false};
 ghost use Rattle.pst_cli.specs.Absent.{absence_line, absence_status};
+ghost use Rattle.pst_cli.specs.Answering.{Delivers, Stands};
 ghost use Rattle.pst_cli.specs.Sending.{Sends};
 ghost use Rattle.pst_sexpr.specs.Writing.{joined};
 
-use crate::output::{Status, write_with_status_or_lost};
+use crate::answer::{Destinations, Status, send_text};
 use pst_sexpr::{Sink, put_each};
 
 /// Why the program has nothing to begin with.
@@ -37,7 +38,7 @@ pub fn refuse_text<W: Sink>(why: Absence<'_>, sink: &mut W) -> Status
         (absence_status why.entry) }
 {
     match why {
-        Absence::NoFile => write_with_status_or_lost(b"refused file\n", Status::Refused, sink),
+        Absence::NoFile => send_text(b"refused file\n", Status::Refused, sink),
         Absence::NoSystem(name) => {
             let parts = [
                 b"refused system ".as_slice(),
@@ -46,6 +47,15 @@ pub fn refuse_text<W: Sink>(why: Absence<'_>, sink: &mut W) -> Status
             ];
             write_refusal_parts(&parts, sink)
         }
-        Absence::NoMemory => write_with_status_or_lost(b"refused memory\n", Status::Lost, sink),
+        Absence::NoMemory => send_text(b"refused memory\n", Status::Lost, sink),
     }
+}
+
+/// Does what [`refuse_text`] does, to `out`. The file for results stays as it is.
+pub fn refuse<F: Sink, W: Sink>(why: Absence<'_>, to: &mut Destinations<F, W>) -> Status
+    requires stands { Stands F.broken W.broken to.old }
+    ensures { Delivers F.taken F.broken W.taken W.broken to.old to.new result true (absence_line why.entry)
+        (absence_status why.entry) }
+{
+    refuse_text(why, &mut to.out)
 }

@@ -1,24 +1,31 @@
 //! `pst campaign`.
-ghost use Rattle.std.specs.Prelude.{◌≡◌, false, IfOk, OnOk, length, string_bytes};
+ghost use Rattle.std.specs.Prelude.{◌≡◌, false, IfOk, length, string_bytes};
 ghost use Rattle.std.specs.Arc.{arc_value};
 ghost use Rattle.pst_campaign.specs.Entries.{MayGive};
-ghost use Rattle.pst_campaign.specs.declared.campaigns.CampaignFault.TheVariants as kind;
+ghost use Rattle.pst_cli.specs.Answering.{Delivers, Reaches, Stands, memory_of};
+ghost use Rattle.pst_cli.specs.Answers.{Answers, IsCampaignAnswerFor, IsRefusedCampaign, IsReportOf};
 ghost use Rattle.pst_cli.specs.CampaignOutput as spec;
 ghost use Rattle.pst_cli.specs.CampaignOutput.{IsCampaignOutput, plan_of};
-ghost use Rattle.pst_cli.specs.EarlyOutput.{IsEarlyOutput, IsEarlyOutputFor};
+ghost use Rattle.pst_cli.specs.Commands.{IsCampaignAnswer};
 ghost use Rattle.pst_cli.specs.Sending.{Prints};
-ghost use Rattle.pst_cli.specs.declared.output.Status.TheVariants as status;
 ghost use Rattle.pst_report.specs.InOrder.{AreOf};
-ghost use Rattle.pst_report.specs.Status.{ended_status};
 ghost use Rattle.pst_report.specs.Text.{report_text};
 ghost use Rattle.pst_trial.specs.Settings.{AreInRange};
 
+use crate::answer::{
+    Answer, Destinations, MEMORY_LINE, OutputForm, Status, deliver, memory_text, send,
+};
+use crate::attendant::Attendant;
+use crate::judge::refused_model_answer;
 use crate::notes::CampaignNotes;
-use crate::output::{Output, Status, refusal_output, write_with_status_or_lost};
 use pst_campaign::{CampaignFault, NeverStops, StopCondition, Watch, campaign_until};
 use pst_ledger::Closed;
 use pst_model::Typed;
-use pst_report::{CampaignStatus, report, status_of_stoppable_campaign};
+use pst_rejudge::json_object_line;
+use pst_report::{
+    CampaignStatus, add_lost_trials_and_first_failure, campaign_report_fields_before_losses,
+    report, status_of_stoppable_campaign,
+};
 use pst_sexpr::{Out, Sink};
 use pst_system::{BoxedSystem, System};
 use pst_trial::{Plan, Record, Settings};
@@ -35,18 +42,22 @@ fn refused_campaign_line(alloc: Global, fault: CampaignFault) -> Result<String, 
     format!(in alloc; "refused campaign {name}\n")
 }
 
-/// The line of a campaign that did not start, and the status.
-fn output_of_refused_campaign(alloc: Global, fault: CampaignFault) -> Result<Output, AllocError>
-    ensures reason { OnOk result (fault ≡ kind.NoMemory → ⊥) }
-    ensures text { IfOk result (λ output. output.text.items ≡ spec.campaign_line fault) }
-    ensures status { IfOk result (λ output. output.status ≡ status.Lost) }
+/// The line of a campaign that did not start. As JSON that is the object of a failed allocation.
+fn refused_campaign_answer(
+    alloc: Global,
+    form: OutputForm,
+    fault: CampaignFault,
+) -> Result<Answer, AllocError>
+    ensures { IfOk result (IsRefusedCampaign fault) }
 {
-    match fault {
-        CampaignFault::NoMemory => Err(AllocError),
-        CampaignFault::NoSystem | CampaignFault::TooMany => {
-            Ok(Output::new(refused_campaign_line(alloc, fault)?, Status::Lost))
-        }
+    if form == OutputForm::Json || fault == CampaignFault::NoMemory {
+        return Err(AllocError);
     }
+    Ok(Answer {
+        text: refused_campaign_line(alloc, fault)?.into_bytes(),
+        status: Status::Lost,
+        refuses: true,
+    })
 }
 
 /// The status after a campaign.
@@ -60,27 +71,57 @@ fn exit_status_after_campaign(ended: CampaignStatus) -> Status
     }
 }
 
-/// The report of a campaign, and the status. Adds the records to `notes` first.
-fn note_results_and_report_campaign(
+/// The report of a campaign.
+fn campaign_lines(
     alloc: Global,
     plan: &Plan,
     closed: &Closed<Record>,
-    notes: &mut CampaignNotes,
-) -> Result<Output, AllocError>
+) -> Result<Vec<u8>, AllocError>
     requires trials { length closed.now ≡ plan.now.settings.trials }
     requires records { AreOf plan.now 0 closed.now }
-    ensures text { IfOk result (λ output. output.text.items ≡ report_text plan.now closed.now) }
-    ensures status { IfOk result (λ output. output.status ≡ spec.status_after (ended_status closed.now)) }
+    ensures { IfOk result (λ text. text.items ≡ report_text plan.now closed.now) }
 {
-    notes.add_trial_results(alloc, plan, closed)?;
     let mut out = Out::new(Vec::new(alloc));
     match report(alloc, plan, closed, &mut out) {
-        Ok(()) => Ok(Output {
-            text: out.into_inner(),
-            status: exit_status_after_campaign(status_of_stoppable_campaign(closed)),
-        }),
+        Ok(()) => Ok(out.into_inner()),
         Err(_) => Err(AllocError),
     }
+}
+
+/// The object of the report of a campaign, on its line.
+fn campaign_object(
+    alloc: Global,
+    plan: &Plan,
+    closed: &Closed<Record>,
+) -> Result<Vec<u8>, AllocError>
+    requires { AreOf plan.now 0 closed.now }
+{
+    let status = status_of_stoppable_campaign(closed);
+    let mut fields = campaign_report_fields_before_losses(alloc, plan, closed, status)?;
+    add_lost_trials_and_first_failure(alloc, &mut fields, plan, closed.entries())?;
+    json_object_line(alloc, fields.as_slice())
+}
+
+/// The report of a campaign in a form.
+fn report_answer(
+    alloc: Global,
+    form: OutputForm,
+    plan: &Plan,
+    closed: &Closed<Record>,
+) -> Result<Answer, AllocError>
+    requires trials { length closed.now ≡ plan.now.settings.trials }
+    requires records { AreOf plan.now 0 closed.now }
+    ensures { IfOk result (Answers (IsReportOf form plan.now closed.now)) }
+{
+    let text = match form {
+        OutputForm::Text => campaign_lines(alloc, plan, closed)?,
+        OutputForm::Json => campaign_object(alloc, plan, closed)?,
+    };
+    Ok(Answer {
+        text,
+        status: exit_status_after_campaign(status_of_stoppable_campaign(closed)),
+        refuses: false,
+    })
 }
 
 /// The plan for a model and settings.
@@ -98,8 +139,9 @@ fn plan_of_model_and_settings(
     }
 }
 
-/// Runs the trials of a model, and returns the report, or the line that says why the campaign did not start.
-fn run_campaign_on_model<K: StopCondition + Sync, R: Threads + Wait + Sync>(
+/// Runs the trials of a model, and returns the report, or the line that says why the campaign did not start. Adds the
+/// records to `notes`.
+fn model_campaign_answer<K: StopCondition + Sync, R: Threads + Wait + Sync>(
     rt: &R,
     alloc: Global,
     typed: Typed,
@@ -107,22 +149,26 @@ fn run_campaign_on_model<K: StopCondition + Sync, R: Threads + Wait + Sync>(
     systems: Vec<BoxedSystem>,
     watch: &K,
     notes: &mut CampaignNotes,
-) -> Result<Output, AllocError>
+    form: OutputForm,
+) -> Result<Answer, AllocError>
     requires { AreInRange settings }
-    ensures { IfOk result (λ output. IsEarlyOutputFor (K.may_end watch.now)
+    ensures { IfOk result (Answers (IsCampaignAnswerFor form (K.may_end watch.now)
         (λ s. MayGive ((System-box s).answers s.value) ((System-box s).fails s.value)
         ((System-box s).reset_fails s.value))
-        settings systems.items typed output.text.items output.status) }
+        settings systems.items typed)) }
 {
     let plan = plan_of_model_and_settings(alloc, typed, settings)?;
     match campaign_until(rt, alloc, plan.clone()?, systems, watch) {
-        Ok(closed) => note_results_and_report_campaign(alloc, &plan, &closed, notes),
-        Err(fault) => output_of_refused_campaign(alloc, fault),
+        Ok(closed) => {
+            notes.add_trial_results(alloc, &plan, &closed)?;
+            report_answer(alloc, form, &plan, &closed)
+        }
+        Err(fault) => refused_campaign_answer(alloc, form, fault),
     }
 }
 
-/// The output for the model at the start of the input, or the first refusal.
-fn run_campaign_on_model_of_input<K: StopCondition + Sync, R: Threads + Wait + Sync>(
+/// The report of the campaign on the model at the start of the input, or the first refusal.
+fn campaign_answer<K: StopCondition + Sync, R: Threads + Wait + Sync>(
     rt: &R,
     alloc: Global,
     input: &[u8],
@@ -130,19 +176,20 @@ fn run_campaign_on_model_of_input<K: StopCondition + Sync, R: Threads + Wait + S
     systems: Vec<BoxedSystem>,
     watch: &K,
     notes: &mut CampaignNotes,
-) -> Result<Output, AllocError>
+    form: OutputForm,
+) -> Result<Answer, AllocError>
     requires { AreInRange settings }
-    ensures { IfOk result (λ output. IsEarlyOutput (K.may_end watch.now)
+    ensures { IfOk result (Answers (IsCampaignAnswer form (K.may_end watch.now)
         (λ s. MayGive ((System-box s).answers s.value) ((System-box s).fails s.value)
         ((System-box s).reset_fails s.value))
-        settings systems.items input.now output.text.items output.status) }
+        settings systems.items input.now)) }
 {
     match load(alloc, input)? {
         Ok(file) => {
             let ModelFile { typed, trees: _ } = file;
-            run_campaign_on_model(rt, alloc, typed, settings, systems, watch, notes)
+            model_campaign_answer(rt, alloc, typed, settings, systems, watch, notes, form)
         }
-        Err(refusal) => refusal_output(alloc, &refusal),
+        Err(refusal) => refused_model_answer(alloc, form, &refusal),
     }
 }
 
@@ -172,25 +219,24 @@ pub fn campaign_text<W: Sink, K: Watch + Sync, R: Threads + Wait + Sync>(
         (W.taken sink.old) (W.taken sink.new) (W.broken sink.new) result }
 {
     let mut notes = CampaignNotes::new();
-    run_and_report_campaign_taking_notes(
-        rt,
-        alloc,
-        input,
-        settings,
-        systems,
-        &NeverStops { watch },
-        &mut notes,
-        sink,
-    )
+    let watch = NeverStops { watch };
+    let form = OutputForm::Text;
+    let answer = campaign_answer(
+        rt, alloc, input, settings, systems, &watch, &mut notes, form,
+    );
+    send(&answer, MEMORY_LINE, sink)
 }
 
-/// Does what [`campaign_text`] does until `watch` says that the campaign is over, and notes what is wanted beside the report.
-/// If the campaign ends early, the status is `Failed` if a trial did not pass and none is lost, and else `Lost`. If an
-/// allocation fails, notes may be missing.
-pub fn run_and_report_campaign_taking_notes<
+/// Does what [`campaign_text`] does until `watch` says that the campaign is over, and notes what is wanted beside the
+/// report. If the campaign ends early, the status is `Failed` if a trial did not pass and none is lost, and else `Lost`.
+/// As JSON, writes one object: the report, or the refusal of the input, or that an allocation failed, also if the
+/// campaign is refused for the number of its systems. If an allocation fails, notes may be missing.
+pub fn report_campaign<
+    F: Sink,
     W: Sink,
     K: StopCondition + Sync,
     R: Threads + Wait + Sync,
+    A: Attendant,
 >(
     rt: &R,
     alloc: Global,
@@ -199,17 +245,18 @@ pub fn run_and_report_campaign_taking_notes<
     systems: Vec<BoxedSystem>,
     watch: &K,
     notes: &mut CampaignNotes,
-    sink: &mut W,
+    form: OutputForm,
+    attendant: &mut A,
+    to: &mut Destinations<F, W>,
 ) -> Status
     requires ranges { AreInRange settings }
-    requires stands { W.broken sink.old ≡ false }
-    ensures { Prints
-        (IsEarlyOutput (K.may_end watch.now) (λ s. MayGive ((System-box s).answers s.value) ((System-box s).fails s.value)
-        ((System-box s).reset_fails s.value)) settings systems.items input.now)
-        (W.taken sink.old) (W.taken sink.new) (W.broken sink.new) result }
+    requires stands { Stands F.broken W.broken to.old }
+    ensures prints { Reaches (memory_of form)
+        (IsCampaignAnswer form (K.may_end watch.now) (λ s. MayGive ((System-box s).answers s.value)
+        ((System-box s).fails s.value) ((System-box s).reset_fails s.value)) settings systems.items input.now)
+        (Delivers F.taken F.broken W.taken W.broken to.old to.new result) }
 {
-    match run_campaign_on_model_of_input(rt, alloc, input, settings, systems, watch, notes) {
-        Ok(output) => write_with_status_or_lost(output.text.as_slice(), output.status, sink),
-        Err(AllocError) => write_with_status_or_lost(b"refused memory\n", Status::Lost, sink),
-    }
+    let answer = campaign_answer(rt, alloc, input, settings, systems, watch, notes, form);
+    attendant.before_output();
+    deliver(&answer, memory_text(form), to)
 }

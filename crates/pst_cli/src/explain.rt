@@ -2,16 +2,19 @@
 ghost use Rattle.std.specs.Prelude.{◌≡◌, false, IfOk, IsTrue, ◌↔◌, string_bytes};
 ghost use Rattle.pst_cli.specs.ExplainOutput.{IsExplainOutput, IsExplanation};
 ghost use Rattle.pst_cli.specs.Output.{AreJudged};
-ghost use Rattle.pst_cli.specs.Sending.{Prints};
+ghost use Rattle.pst_cli.specs.Answering.{Delivers, Reaches, Stands};
+ghost use Rattle.pst_cli.specs.Answers.{Answers, IsRefusalBy};
+ghost use Rattle.pst_cli.specs.Sending.{Prints, memory_line};
 ghost use Rattle.pst_judge.specs.Judgement.{IsJudgement};
 ghost use Rattle.pst_runs.specs.Lawful.{AreLawful, IsLawful};
 ghost use Rattle.pst_cli.specs.ChosenItem.{IsItem, no_item_line};
-ghost use Rattle.pst_cli.specs.declared.output.Status.TheVariants.{Refused};
+ghost use Rattle.pst_cli.specs.declared.answer.Status.TheVariants.{Refused};
 
+use crate::answer::{Answer, Destinations, MEMORY_LINE, Status, deliver, send};
+use crate::attendant::Attendant;
 use crate::form::ExplanationForm;
 use crate::input::{JudgedFile, Keep, concatenate_run_lists, read_and_judge_file};
 use crate::judge::{is_explained_or_valid, status_of_judgements};
-use crate::output::{Output, Status, write_with_status_or_lost};
 use pst_case::Run;
 use pst_compile::Compiled;
 use pst_explain::{TreePlace, explain_item, graphviz_text_of_item_search, tree_places_in_input};
@@ -119,8 +122,8 @@ fn document_explaining_chosen_items(
     Ok(text)
 }
 
-/// The output for the chosen items: their explanations, or the refusal of an item that does not exist.
-fn output_of_explanations_or_missing_item(
+/// The explanations of the chosen items, or the refusal of an item that does not exist.
+fn explanations_answer(
     alloc: Global,
     compiled: &Compiled,
     asked: ExplainOptions<'_>,
@@ -128,31 +131,32 @@ fn output_of_explanations_or_missing_item(
     runs: &[Run],
     all: &[Judged],
     steps: &ProgressCounter,
-) -> Result<Output, AllocError>
+) -> Result<Answer, AllocError>
     requires lawful { AreLawful compiled.now runs.now }
     requires judged { AreJudged compiled.now runs.now all.now }
-    ensures { IfOk result (λ output. IsExplanation asked.entry.chosen all.now output.text.items output.status) }
+    ensures { IfOk result (Answers (IsExplanation asked.entry.chosen all.now)) }
 {
     if let ChosenItems::Item(number) = asked.chosen {
         if !is_number_of_judged_item(number, all) {
-            return output_of_missing_item(alloc, number, all.len());
+            return missing_item_answer(alloc, number, all.len());
         }
     }
-    Ok(Output {
+    Ok(Answer {
         text: document_explaining_chosen_items(alloc, compiled, asked, places, runs, all, steps)?,
         status: status_of_judgements(all),
+        refuses: false,
     })
 }
 
 /// The explanations of the chosen items after the model, or the first refusal.
-fn output_of_explain_command<R: Threads + Sync>(
+fn explain_answer<R: Threads + Sync>(
     rt: &R,
     alloc: Global,
     input: &[u8],
     asked: ExplainOptions<'_>,
     steps: &ProgressCounter,
-) -> Result<Output, AllocError>
-    ensures { IfOk result (λ output. IsExplainOutput input.now asked.entry.chosen output.text.items output.status) }
+) -> Result<Answer, AllocError>
+    ensures { IfOk result (Answers (IsExplainOutput input.now asked.entry.chosen)) }
 {
     let JudgedFile {
         compiled,
@@ -160,11 +164,11 @@ fn output_of_explain_command<R: Threads + Sync>(
         judged,
     } = match read_and_judge_file(rt, alloc, input, Keep::All, &ProgressCounter::new())? {
         Ok(file) => file,
-        Err(output) => return Ok(output),
+        Err(answer) => return Ok(answer),
     };
     let runs = concatenate_run_lists(alloc, runs)?;
     let places = tree_places_in_input(alloc, asked.files, input)?;
-    output_of_explanations_or_missing_item(
+    explanations_answer(
         alloc,
         &compiled,
         asked,
@@ -192,26 +196,26 @@ pub fn explain_text<W: Sink, R: Threads + Sync>(
     ensures { Prints (IsExplainOutput input.now asked.entry.chosen)
         (W.taken sink.old) (W.taken sink.new) (W.broken sink.new) result }
 {
-    explain_with_progress(rt, alloc, input, asked, &ProgressCounter::new(), sink)
+    let answer = explain_answer(rt, alloc, input, asked, &ProgressCounter::new());
+    send(&answer, MEMORY_LINE, sink)
 }
 
-/// Does what [`explain_text`] does, and counts the items that are explained in `steps`.
-pub fn explain_with_progress<W: Sink, R: Threads + Sync>(
+/// Does what [`explain_text`] does.
+pub fn explain_items<F: Sink, W: Sink, R: Threads + Sync, A: Attendant>(
     rt: &R,
     alloc: Global,
     input: &[u8],
-    asked: ExplainOptions<'_>,
-    steps: &ProgressCounter,
-    sink: &mut W,
+    options: ExplainOptions<'_>,
+    attendant: &mut A,
+    to: &mut Destinations<F, W>,
 ) -> Status
-    requires { W.broken sink.old ≡ false }
-    ensures { Prints (IsExplainOutput input.now asked.entry.chosen)
-        (W.taken sink.old) (W.taken sink.new) (W.broken sink.new) result }
+    requires stands { Stands F.broken W.broken to.old }
+    ensures prints { Reaches memory_line (IsExplainOutput input.now options.entry.chosen)
+        (Delivers F.taken F.broken W.taken W.broken to.old to.new result) }
 {
-    match output_of_explain_command(rt, alloc, input, asked, steps) {
-        Ok(output) => write_with_status_or_lost(output.text.as_slice(), output.status, sink),
-        Err(AllocError) => write_with_status_or_lost(b"refused memory\n", Status::Lost, sink),
-    }
+    let answer = explain_answer(rt, alloc, input, options, attendant.steps());
+    attendant.before_output();
+    deliver(&answer, MEMORY_LINE, to)
 }
 
 /// Which items to explain.
@@ -250,15 +254,13 @@ fn missing_item_line(alloc: Global, number: usize, count: usize) -> Result<Strin
     format!(in alloc; "refused item {number} of {count}\n")
 }
 
-/// The line for an item that does not exist, and the status.
-pub(crate) fn output_of_missing_item(
+/// The refusal of an item that does not exist.
+pub(crate) fn missing_item_answer(
     alloc: Global,
     number: usize,
     count: usize,
-) -> Result<Output, AllocError>
-    ensures text { IfOk result (λ output. output.text.items ≡ no_item_line number count) }
-    ensures status { IfOk result (λ output. output.status ≡ Refused) }
+) -> Result<Answer, AllocError>
+    ensures { IfOk result (IsRefusalBy (no_item_line number count) Refused) }
 {
-    let line = missing_item_line(alloc, number, count)?;
-    Ok(Output::new(line, Status::Refused))
+    Ok(Answer::refusal(missing_item_line(alloc, number, count)?))
 }

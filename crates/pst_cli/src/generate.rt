@@ -1,24 +1,27 @@
 //! `pst generate`.
-ghost use Rattle.std.specs.Prelude.{◌≡◌, ◌≤◌, ◌<◌, ◌+◌, ◌^◌, ◌-◌, false, IfOk, string_bytes};
+ghost use Rattle.std.specs.Prelude.{◌≡◌, ◌≤◌, ◌<◌, ◌+◌, ◌^◌, ◌-◌, ℕ, List, false, IfOk, MatchResult, string_bytes};
 ghost use Rattle.std.specs.List.{AllZip, range_with_len};
-ghost use Rattle.pst_cli.specs.Generating.{EndsCases, EndsLines, IsLineOf};
-ghost use Rattle.pst_cli.specs.GenerateOutput.{IsGenerateOutput, fault_line, genfault_fields, genfault_line, memory_in, refusal_in};
-ghost use Rattle.pst_cli.specs.Sending.{PrintsElse, Sends};
-ghost use Rattle.pst_cli.specs.declared.output.Status.TheVariants.{Lost, Refused};
+ghost use Rattle.pst_cli.specs.Answering.{Delivers, Reaches, Stands};
+ghost use Rattle.pst_cli.specs.Generating.{EndsCases, EndsLines, IsLineOf, IsPlanOf};
+ghost use Rattle.pst_cli.specs.GenerateOutput.{IsGenerateOutput, fault_line, form_beside, genfault_fields, genfault_line, memory_in};
+ghost use Rattle.pst_cli.specs.Sending.{SendsOne};
+ghost use Rattle.pst_sexpr.specs.declared.form.Form.{Form};
 ghost use Rattle.pst_trial.specs.Settings.{AreInRange};
+ghost use Rattle.pst_typing.specs.Loading.{Holds, IsRefusal};
 
-use crate::model_commands::{ItemForm, item_line_in_form};
-use crate::objects::{MEMORY_OBJECT, output_of_refusal_json_object};
-use crate::output::{
-    Output, Status, joined_outputs_with_worst_status, refusal_output, write_with_status_or_lost,
+use crate::answer::{
+    Destinations, Output, OutputForm, Status, deliver, joined_outputs_with_worst_status,
+    memory_text, send_text,
 };
+use crate::judge::refused_model_answer;
+use crate::model_commands::{ItemForm, item_line_in_form};
 use crate::stream::Cut;
 use pst_case::Run;
 use pst_eval::FaultPlace;
 use pst_rejudge::{Field, FieldName, add_number_field, add_text_field, json_object_line};
 use pst_sexpr::{Sink, WriteFailed, put_all};
 use pst_trial::{Plan, Settings, generate_trial_case, prove_records_are_send_and_sync};
-use pst_typing::{ModelFile, Refusal, load};
+use pst_typing::{Refusal, load};
 use rayon::prelude::*;
 use std::alloc::{AllocError, Global};
 use std::thread::Threads;
@@ -195,41 +198,72 @@ fn generate_and_write_cases_in_blocks<W: Sink, R: Threads + Sync>(
     Ok(status)
 }
 
-/// The refusal of a model, and the status.
-fn refusal_output_in_form(
-    alloc: Global,
-    form: ItemForm,
-    refusal: &Refusal,
-) -> Result<Output, AllocError>
-    ensures text { IfOk result (λ output. output.text.items ≡ refusal_in form refusal.now) }
-    ensures status { IfOk result (λ output. output.status ≡ Refused) }
-{
-    match form {
-        ItemForm::Trees => refusal_output(alloc, refusal),
-        ItemForm::Json => output_of_refusal_json_object(alloc, refusal),
+impl ItemForm {
+    /// The form of refusals beside items in this form.
+    fn form_beside(self) -> OutputForm
+        ensures { result ≡ form_beside self }
+    {
+        match self {
+            ItemForm::Trees => OutputForm::Text,
+            ItemForm::Json => OutputForm::Json,
+        }
     }
 }
 
-/// Writes that an allocation failed, and returns the status.
-fn write_out_of_memory_refusal<W: Sink>(form: ItemForm, sink: &mut W) -> Status
-    requires { W.broken sink.old ≡ false }
-    ensures { Sends (W.taken sink.old) (W.taken sink.new) (W.broken sink.new) result (memory_in form) Lost }
+/// Writes the lines of `count` trials from `first` on, and after them that an allocation failed, if one does.
+fn write_cases<W: Sink, R: Threads + Sync>(
+    rt: &R,
+    alloc: Global,
+    plan: &Plan,
+    form: ItemForm,
+    first: u64,
+    count: u64,
+    sink: &mut W,
+) -> Status
+    requires numbers { first + count < 2 ^ 64 }
+    requires stands { W.broken sink.old ≡ false }
+    ensures { (input : List ℕ) (trees : List Form) → Holds input plan.now.model trees
+        → SendsOne (IsGenerateOutput form plan.now.settings first count input)
+        (W.taken sink.old) (W.taken sink.new) (W.broken sink.new) result }
 {
-    match form {
-        ItemForm::Trees => write_with_status_or_lost(b"refused memory\n", Status::Lost, sink),
-        ItemForm::Json => write_with_status_or_lost(MEMORY_OBJECT, Status::Lost, sink),
+    let memory = memory_text(form.form_beside());
+    match generate_and_write_cases_in_blocks(rt, alloc, plan, form, first, first + count, sink) {
+        Ok(status) => status,
+        Err(Cut::Unread) => send_text(memory, Status::Lost, sink),
+        Err(Cut::NoMemory) => send_text(memory, Status::Lost, sink),
+        Err(Cut::Unwritten) => Status::Lost,
+    }
+}
+
+/// The plan for the model at the start of the input, or the refusal of the model.
+fn plan_of_input(
+    alloc: Global,
+    input: &[u8],
+    settings: Settings,
+) -> Result<Result<Plan, Refusal>, AllocError>
+    requires { AreInRange settings }
+    ensures { IfOk result (λ read. MatchResult read (IsPlanOf input.now settings) (IsRefusal input.now)) }
+{
+    let typed = match load(alloc, input)? {
+        Ok(file) => file.typed,
+        Err(refusal) => return Ok(Err(refusal)),
+    };
+    match Plan::new(alloc, typed, settings) {
+        Ok(plan) => Ok(Ok(plan)),
+        Err(_) => Err(AllocError),
     }
 }
 
 /// Writes the cases of `count` trials of a model, from trial `first` on, a line each: the case in the form, as
-/// `convert_text` writes it; or if a callback fault leaves the trial without a case, `genfault NUMBER COMMAND CALLBACK
+/// `convert_items` writes it; or if a callback fault leaves the trial without a case, `genfault NUMBER COMMAND CALLBACK
 /// KIND`, in JSON an object with these members. A campaign with these settings tries the same case in the trial of the
-/// same number. Generates several cases at once, and writes lines as it goes.
+/// same number. Generates several cases at once, and writes lines as it goes, to the file if there is one, else to `out`.
 ///
-/// The status is `Failed` if a callback faults, else `Accepted`. If the model is refused, writes its refusal alone,
-/// with the status `Refused`. If an allocation fails, writes `refused memory` after the lines so far, with the status
-/// `Lost`. In JSON both are objects. The status is also `Lost` if the writer fails.
-pub fn generate_and_write_cases_of_input<W: Sink, R: Threads + Sync>(
+/// The status is `Failed` if a callback faults, else `Accepted`. If the model is refused, writes its refusal alone to
+/// `out`, with the status `Refused`. If an allocation fails, writes `refused memory` after the lines so far, with the
+/// status `Lost`; alone and to `out` if it fails before the first case. In JSON both are objects. The status is also
+/// `Lost` if the writer fails.
+pub fn generate_cases<F: Sink, W: Sink, R: Threads + Sync>(
     rt: &R,
     alloc: Global,
     input: &[u8],
@@ -237,38 +271,25 @@ pub fn generate_and_write_cases_of_input<W: Sink, R: Threads + Sync>(
     settings: Settings,
     first: u64,
     count: u64,
-    sink: &mut W,
+    to: &mut Destinations<F, W>,
 ) -> Status
     requires ranges { AreInRange settings }
     requires numbers { first + count < 2 ^ 64 }
-    requires stands { W.broken sink.old ≡ false }
-    ensures { PrintsElse (memory_in form) (IsGenerateOutput form settings first count input.now)
-        (W.taken sink.old) (W.taken sink.new) (W.broken sink.new) result }
+    requires stands { Stands F.broken W.broken to.old }
+    ensures prints { Reaches (memory_in form) (IsGenerateOutput form settings first count input.now)
+        (Delivers F.taken F.broken W.taken W.broken to.old to.new result) }
 {
-    let typed = match load(alloc, input) {
-        Ok(Ok(file)) => {
-            let ModelFile { typed, trees: _ } = file;
-            typed
-        }
+    let memory = memory_text(form.form_beside());
+    let plan = match plan_of_input(alloc, input, settings) {
+        Ok(Ok(plan)) => plan,
         Ok(Err(refusal)) => {
-            return match refusal_output_in_form(alloc, form, &refusal) {
-                Ok(output) => write_with_status_or_lost(
-                    output.text.as_slice(),
-                    output.status,
-                    sink,
-                ),
-                Err(AllocError) => write_out_of_memory_refusal(form, sink),
-            };
+            let refused = refused_model_answer(alloc, form.form_beside(), &refusal);
+            return deliver(&refused, memory, to);
         }
-        Err(AllocError) => return write_out_of_memory_refusal(form, sink),
+        Err(AllocError) => return deliver(&Err(AllocError), memory, to),
     };
-    let Ok(plan) = Plan::new(alloc, typed, settings) else {
-        return write_out_of_memory_refusal(form, sink);
-    };
-    match generate_and_write_cases_in_blocks(rt, alloc, &plan, form, first, first + count, sink) {
-        Ok(status) => status,
-        Err(Cut::Unread) => write_out_of_memory_refusal(form, sink),
-        Err(Cut::NoMemory) => write_out_of_memory_refusal(form, sink),
-        Err(Cut::Unwritten) => Status::Lost,
+    match &mut to.file {
+        Some(file) => write_cases(rt, alloc, &plan, form, first, count, file),
+        None => write_cases(rt, alloc, &plan, form, first, count, &mut to.out),
     }
 }

@@ -1,15 +1,17 @@
 //! `pst explain --dot`.
 ghost use Rattle.std.specs.Prelude.{◌≡◌, false, IfOk, MatchOption};
+ghost use Rattle.pst_cli.specs.Answering.{Delivers, Reaches, Stands};
+ghost use Rattle.pst_cli.specs.Answers.{Answers};
 ghost use Rattle.pst_cli.specs.ChosenItem.{IsItem};
 ghost use Rattle.pst_cli.specs.GraphOutput.{IsGraphOf, IsGraphOutput, drawn_number, first_failed};
 ghost use Rattle.pst_cli.specs.Output.{AreJudged};
-ghost use Rattle.pst_cli.specs.Sending.{Prints};
+ghost use Rattle.pst_cli.specs.Sending.{Prints, memory_line};
 ghost use Rattle.pst_runs.specs.Lawful.{AreLawful};
 
-use crate::explain::output_of_missing_item;
+use crate::answer::{Answer, Destinations, MEMORY_LINE, Status, deliver, send};
+use crate::explain::missing_item_answer;
 use crate::input::{JudgedFile, Keep, concatenate_run_lists, read_and_judge_file};
 use crate::judge::{is_explained_or_valid, status_of_judgements};
-use crate::output::{Output, Status, write_with_status_or_lost};
 use pst_case::Run;
 use pst_compile::Compiled;
 use pst_explain::graphviz_text_of_item_search;
@@ -77,37 +79,38 @@ fn graph_of_item_if_it_exists(
 }
 
 /// The graph of the chosen item, or the refusal of an item that does not exist.
-fn output_of_graph_or_missing_item(
+fn item_graph_answer(
     alloc: Global,
     compiled: &Compiled,
     item: Option<usize>,
     whole: bool,
     runs: &[Run],
     all: &[Judged],
-) -> Result<Output, AllocError>
+) -> Result<Answer, AllocError>
     requires lawful { AreLawful compiled.now runs.now }
     requires judged { AreJudged compiled.now runs.now all.now }
-    ensures { IfOk result (λ output. IsGraphOf item all.now output.text.items output.status) }
+    ensures { IfOk result (Answers (IsGraphOf item all.now)) }
 {
     let number = number_of_item_to_draw(item, all);
     match graph_of_item_if_it_exists(alloc, compiled, number, whole, runs, all)? {
-        Some(text) => Ok(Output {
+        Some(text) => Ok(Answer {
             text,
             status: status_of_judgements(all),
+            refuses: false,
         }),
-        None => output_of_missing_item(alloc, number, all.len()),
+        None => missing_item_answer(alloc, number, all.len()),
     }
 }
 
 /// The graph of the chosen item, or the first refusal.
-fn output_of_graph_command<R: Threads + Sync>(
+fn graph_answer<R: Threads + Sync>(
     rt: &R,
     alloc: Global,
     input: &[u8],
     item: Option<usize>,
     whole: bool,
-) -> Result<Output, AllocError>
-    ensures { IfOk result (λ output. IsGraphOutput input.now item output.text.items output.status) }
+) -> Result<Answer, AllocError>
+    ensures { IfOk result (Answers (IsGraphOutput input.now item)) }
 {
     let JudgedFile {
         compiled,
@@ -115,10 +118,10 @@ fn output_of_graph_command<R: Threads + Sync>(
         judged,
     } = match read_and_judge_file(rt, alloc, input, Keep::All, &ProgressCounter::new())? {
         Ok(file) => file,
-        Err(output) => return Ok(output),
+        Err(answer) => return Ok(answer),
     };
     let runs = concatenate_run_lists(alloc, runs)?;
-    output_of_graph_or_missing_item(
+    item_graph_answer(
         alloc,
         &compiled,
         item,
@@ -146,8 +149,29 @@ pub fn write_search_graph_of_item<W: Sink, R: Threads + Sync>(
     ensures { Prints (IsGraphOutput input.now item)
         (W.taken sink.old) (W.taken sink.new) (W.broken sink.new) result }
 {
-    match output_of_graph_command(rt, alloc, input, item, whole) {
-        Ok(output) => write_with_status_or_lost(output.text.as_slice(), output.status, sink),
-        Err(AllocError) => write_with_status_or_lost(b"refused memory\n", Status::Lost, sink),
-    }
+    send(
+        &graph_answer(rt, alloc, input, item, whole),
+        MEMORY_LINE,
+        sink,
+    )
+}
+
+/// Does what [`write_search_graph_of_item`] does.
+pub fn draw_item<F: Sink, W: Sink, R: Threads + Sync>(
+    rt: &R,
+    alloc: Global,
+    input: &[u8],
+    item: Option<usize>,
+    is_whole: bool,
+    to: &mut Destinations<F, W>,
+) -> Status
+    requires stands { Stands F.broken W.broken to.old }
+    ensures prints { Reaches memory_line (IsGraphOutput input.now item)
+        (Delivers F.taken F.broken W.taken W.broken to.old to.new result) }
+{
+    deliver(
+        &graph_answer(rt, alloc, input, item, is_whole),
+        MEMORY_LINE,
+        to,
+    )
 }

@@ -4,6 +4,7 @@
 //! The functions on threads do nothing; their contracts say that the types are `Sync`.
 ghost use Rattle.std.specs.Prelude.{◌≡◌, IfOk, MatchResult, true, IfSome};
 ghost use Rattle.pst_typing.specs.Loading.{Holds, IsRefusal};
+ghost use Rattle.pst_cli.specs.Answers.{Answers};
 ghost use Rattle.pst_cli.specs.Output.{HoldsRuns, IsFirstRefusal};
 ghost use Rattle.pst_cli.specs.Kept.{HoldsJudged, keeps_all};
 ghost use Rattle.pst_rejudge.specs.Parts.{joined};
@@ -11,8 +12,8 @@ ghost use Rattle.std.specs.Thread.{IsSync};
 ghost use Rattle.pst_compile.specs.contracts.compiled.Compiled.{the_row as compiled_row};
 ghost use Rattle.pst_judge.specs.contracts.judgement.Judged.{the_row as judged_row};
 
-use crate::judge::{output_of_refused_run, read_runs_of_trees};
-use crate::output::{Output, refusal_output};
+use crate::answer::{Answer, refusal_answer};
+use crate::judge::{read_runs_of_trees, refused_run_answer};
 use pst_case::Run;
 use pst_compile::{Code, Compiled, compile};
 use pst_explain::tree_places_in_input;
@@ -70,23 +71,22 @@ pub fn count_items_of_input(alloc: Global, input: &[u8]) -> Result<usize, AllocE
     Ok(trees.len().saturating_sub(1))
 }
 
-/// Reads the input from its first byte to its last, and returns the model and the runs, or the output for the first
-/// refusal.
+/// Reads the input from its first byte to its last, and returns the model and the runs, or the first refusal.
 pub fn read_model_and_runs_of_input(
     alloc: Global,
     input: &[u8],
-) -> Result<Result<ModelAndRuns, Output>, AllocError>
+) -> Result<Result<ModelAndRuns, Answer>, AllocError>
     ensures { IfOk result (λ read. MatchResult read
         (λ file. HoldsRuns input.now file.compiled file.runs.items)
-        (λ output. IsFirstRefusal input.now output.text.items output.status)) }
+        (Answers (IsFirstRefusal input.now))) }
 {
     let CompiledModelAndTrees { compiled, trees } = match compile_model_of_input(alloc, input)? {
         Ok(file) => file,
-        Err(refusal) => return Ok(Err(refusal_output(alloc, &refusal)?)),
+        Err(refusal) => return Ok(Err(refusal_answer(alloc, &refusal)?)),
     };
     match read_runs_of_trees(alloc, compiled.typed(), trees_after_model(trees.as_slice()))? {
         Ok(runs) => Ok(Ok(ModelAndRuns { compiled, runs })),
-        Err(fault) => Ok(Err(output_of_refused_run(alloc, &fault)?)),
+        Err(fault) => Ok(Err(refused_run_answer(alloc, &fault)?)),
     }
 }
 
@@ -160,20 +160,20 @@ pub fn concatenate_run_lists(alloc: Global, parts: Vec<Vec<Run>>) -> Result<Vec<
 }
 
 /// Reads the input from its first byte to its last and then judges its items, several at once. Returns the items and
-/// judgements, or the output for the first refusal.
+/// judgements, or the first refusal.
 fn read_all_runs_then_judge_in_parallel<R: Threads + Sync>(
     rt: &R,
     alloc: Global,
     input: &[u8],
     steps: &ProgressCounter,
-) -> Result<Result<JudgedFile, Output>, AllocError>
+) -> Result<Result<JudgedFile, Answer>, AllocError>
     ensures { IfOk result (λ read. MatchResult read
         (λ file. HoldsJudged true input.now file.compiled (joined file.runs.items) file.judged.items)
-        (λ output. IsFirstRefusal input.now output.text.items output.status)) }
+        (Answers (IsFirstRefusal input.now))) }
 {
     let ModelAndRuns { compiled, runs } = match read_model_and_runs_of_input(alloc, input)? {
         Ok(read) => read,
-        Err(output) => return Ok(Err(output)),
+        Err(answer) => return Ok(Err(answer)),
     };
     prove_compiled_models_are_sync();
     steps.restart_with_total(runs.len());
@@ -186,7 +186,7 @@ fn read_all_runs_then_judge_in_parallel<R: Threads + Sync>(
     }))
 }
 
-/// The judgements on the items of an input, several judged at once, or the output for the first refusal. `keep` says
+/// The judgements on the items of an input, several judged at once, or the first refusal. `keep` says
 /// which items to keep; more may be kept. `steps` counts the items that are judged.
 pub fn read_and_judge_file<R: Threads + Sync>(
     rt: &R,
@@ -194,10 +194,10 @@ pub fn read_and_judge_file<R: Threads + Sync>(
     input: &[u8],
     keep: Keep,
     steps: &ProgressCounter,
-) -> Result<Result<JudgedFile, Output>, AllocError>
+) -> Result<Result<JudgedFile, Answer>, AllocError>
     ensures { IfOk result (λ read. MatchResult read
         (λ file. HoldsJudged (keeps_all keep) input.now file.compiled (joined file.runs.items) file.judged.items)
-        (λ output. IsFirstRefusal input.now output.text.items output.status)) }
+        (Answers (IsFirstRefusal input.now))) }
 {
     match read_and_judge_in_parallel_if_possible(rt, alloc, input, keep, steps)? {
         Some(file) => Ok(Ok(file)),
@@ -225,6 +225,15 @@ fn has_nontrivial_precondition(item: &Item) -> bool {
 }
 
 impl Keep {
+    /// Keeps runs only if they may be worth a warning, and none at all if warnings are not wanted.
+    pub(crate) fn for_warnings(are_wanted: bool) -> Keep {
+        if are_wanted {
+            Keep::ForWarnings
+        } else {
+            Keep::Nothing
+        }
+    }
+
     /// Whether to keep runs over a model.
     pub(crate) fn keeps_runs_of_model(self, typed: &Typed) -> bool
         ensures { keeps_all self ≡ true → result ≡ true }

@@ -6,9 +6,9 @@ ghost use Rattle.pst_cli.specs.Output.{item_line};
 ghost use Rattle.pst_cli.specs.RunOutput.{lost_line, run_with};
 ghost use Rattle.pst_system.specs.Kept.{AreKept};
 
+use crate::answer::{Output, Status};
 use crate::counts::ItemResultCounts;
 use crate::lines::item_verdict_line;
-use crate::output::{Output, Status};
 use crate::run::{status_of_judgement, tree_line_of_run};
 use pst_case::{History, Run, Shaped};
 use pst_compile::Compiled;

@@ -1,23 +1,37 @@
 //! `pst judge`.
-ghost use Rattle.std.specs.Prelude.{◌≡◌, false, All, IfOk, IfSome, MatchResult, string_bytes};
+ghost use Rattle.std.specs.Prelude.{◌≡◌, false, All, IfOk, IfSome, MatchResult, Ok, Err, None, string_bytes};
 ghost use Rattle.std.specs.List.{list_all};
-ghost use Rattle.pst_cli.specs.Kept.{HoldsJudged, keeps_all};
+ghost use Rattle.pst_cli.specs.Answering.{Delivers, Reaches, Stands, memory_of, refusal_of};
+ghost use Rattle.pst_cli.specs.Answers.{Answers, IsRefusalBy, shown_results};
+ghost use Rattle.pst_cli.specs.Commands.{HoldsJudging, IsJudgeAnswer, each_answer};
+ghost use Rattle.pst_cli.specs.KeepingOn.{HoldsAnswers, IsKeepingOnOutput, IsShownKeepingOn};
+ghost use Rattle.pst_cli.specs.Kept.{HoldsJudged};
 ghost use Rattle.pst_cli.specs.Output.{IsJudgeOutput, IsShownOutput, is_good, run_line, status_of};
 ghost use Rattle.pst_cli.specs.Sending.{Prints};
-ghost use Rattle.pst_cli.specs.declared.output.Status.TheVariants.{Refused};
+ghost use Rattle.pst_cli.specs.declared.answer.Status.TheVariants.{Refused};
 ghost use Rattle.pst_rejudge.specs.Parts.{joined};
 ghost use Rattle.pst_runs.specs.Items.{runs_of};
 ghost use Rattle.pst_runs.specs.Lawful.{AreLawful};
 
+use crate::answer::{
+    Answer, Destinations, MEMORY_LINE, OutputForm, Status, deliver, memory_text, refusal_answer,
+    send,
+};
+use crate::attendant::Attendant;
 use crate::input::{JudgedFile, Keep, read_and_judge_file};
+use crate::keep::{
+    FileWithItemResults, judge_each_item_of_input, shown_item_result_lines,
+    worst_status_of_item_results,
+};
 use crate::lines::{Shown, shown_item_verdict_lines};
-use crate::output::{Output, Status, write_with_status_or_lost};
+use crate::objects::{refusal_object_answer, shown_item_json_objects};
 use pst_case::{CaseFaultKind, Run};
 use pst_judge::{Judged, Verdict};
 use pst_model::Typed;
-use pst_rejudge::ProgressCounter;
+use pst_rejudge::{ItemResult, ProgressCounter};
 use pst_runs::{RunFault, RunFaultKind, read_runs};
 use pst_sexpr::{Sink, Tree};
+use pst_typing::Refusal;
 use std::alloc::{AllocError, Global};
 use std::thread::Threads;
 
@@ -77,108 +91,181 @@ pub fn refused_run_line(alloc: Global, fault: &RunFault) -> Result<String, Alloc
     format!(in alloc; "refused run {fault}\n")
 }
 
-/// The line of a refused item, and the status.
-pub fn output_of_refused_run(alloc: Global, fault: &RunFault) -> Result<Output, AllocError>
-    ensures text { IfOk result (λ output. output.text.items ≡ run_line fault.now) }
-    ensures status { IfOk result (λ output. output.status ≡ Refused) }
+/// The refusal of an item.
+pub(crate) fn refused_run_answer(alloc: Global, fault: &RunFault) -> Result<Answer, AllocError>
+    ensures { IfOk result (IsRefusalBy (run_line fault.now) Refused) }
 {
-    Ok(Output::new(refused_run_line(alloc, fault)?, Status::Refused))
+    Ok(Answer::refusal(refused_run_line(alloc, fault)?))
 }
 
-/// The lines of the items after the model, and the items as far as `keep` says; or the first refusal.
-fn output_of_judge_command<R: Threads + Sync>(
+/// How `pst judge` judges items and writes their verdicts.
+#[derive(Clone, Copy, Debug, PartialEq, Eq, Drop)]
+pub struct JudgeOptions {
+    /// Whether verdicts are lines or objects. Objects say of each refused item that it is refused.
+    pub form: OutputForm,
+    /// Whether a line says of each refused item that it is refused; else the first refused item refuses the input.
+    pub keeps_going: bool,
+    /// Which items have a line or an object.
+    pub shown: Shown,
+    /// Whether runs up to the first refused item are returned if the precondition of some operation is another
+    /// expression than `true`. Over any other model none is worth a warning, and each thread drops the runs that it
+    /// judged.
+    pub keeps_runs: bool,
+}
+
+/// What was judged.
+#[derive(Drop)]
+pub enum Judging {
+    /// All items of an input without refused ones.
+    UpToRefusal(JudgedFile),
+    /// Each item, refused or not.
+    Each(FileWithItemResults),
+}
+
+/// An answer, and what was judged for it if the input is not refused.
+type JudgeAnswer = (Answer, Option<Judging>);
+
+/// The lines of the items after the model, and their judgements; or the first refusal.
+fn judge_up_to_refusal<R: Threads + Sync>(
     rt: &R,
     alloc: Global,
     input: &[u8],
     shown: Shown,
     keep: Keep,
     steps: &ProgressCounter,
-) -> Result<(Output, Option<JudgedFile>), AllocError>
-    ensures output { IfOk result (λ r. IsShownOutput shown input.now r.0.text.items r.0.status) }
-    ensures held { IfOk result (λ r. IfSome r.1 (λ file. HoldsJudged (keeps_all keep) input.now file.compiled
-        (joined file.runs.items) file.judged.items)) }
-    ensures lawful { IfOk result
-        (λ r. IfSome r.1 (λ judged. All (λ runs. AreLawful judged.compiled runs.items) judged.runs.items)) }
+) -> Result<JudgeAnswer, AllocError>
+    ensures output { IfOk result (λ r. Answers (IsShownOutput shown input.now) r.0) }
+    ensures held { IfOk result (λ r. IfSome r.1 (HoldsJudging input.now)) }
 {
     let file = match read_and_judge_file(rt, alloc, input, keep, steps)? {
         Ok(file) => file,
-        Err(output) => return Ok((output, None)),
+        Err(answer) => return Ok((answer, None)),
     };
     let text = shown_item_verdict_lines(rt, alloc, shown, file.judged.as_slice())?;
-    let output = Output::new(text, status_of_judgements(file.judged.as_slice()));
-    Ok((output, Some(file)))
+    let answer = Answer {
+        text: text.into_bytes(),
+        status: status_of_judgements(file.judged.as_slice()),
+        refuses: false,
+    };
+    Ok((answer, Some(Judging::UpToRefusal(file))))
 }
 
-/// Does what [`judge_file_with_progress`] does, and keeps the items as `keep` says.
-fn judge_file_and_keep_items<W: Sink, R: Threads + Sync>(
-    rt: &R,
+/// The refusal of a model.
+pub(crate) fn refused_model_answer(
     alloc: Global,
-    input: &[u8],
-    shown: Shown,
-    keep: Keep,
-    steps: &ProgressCounter,
-    sink: &mut W,
-) -> (Status, Option<JudgedFile>)
-    requires { W.broken sink.old ≡ false }
-    ensures prints { Prints (IsShownOutput shown input.now)
-        (W.taken sink.old) (W.taken sink.new) (W.broken sink.new) result.0 }
-    ensures held { IfSome result.1 (λ file. HoldsJudged (keeps_all keep) input.now file.compiled
-        (joined file.runs.items) file.judged.items) }
-    ensures lawful { IfSome result.1
-        (λ judged. All (λ runs. AreLawful judged.compiled runs.items) judged.runs.items) }
+    form: OutputForm,
+    refusal: &Refusal,
+) -> Result<Answer, AllocError>
+    ensures { IfOk result (IsRefusalBy (refusal_of form refusal.now) Refused) }
 {
-    match output_of_judge_command(rt, alloc, input, shown, keep, steps) {
-        Ok((output, judged)) => (
-            write_with_status_or_lost(output.text.as_slice(), output.status, sink),
-            judged,
-        ),
-        Err(AllocError) => (
-            write_with_status_or_lost(b"refused memory\n", Status::Lost, sink),
-            None,
-        ),
+    match form {
+        OutputForm::Text => refusal_answer(alloc, refusal),
+        OutputForm::Json => refusal_object_answer(alloc, refusal),
     }
 }
 
-/// Does what [`judge_text`] does, but with [`Shown::Failures`] writes only the lines of items that are neither
-/// explained nor valid, with the same status. Returns the judgements if all items were judged, and with them the items
-/// if the precondition of some operation is another expression than `true`. Over any other model no item is worth a
-/// warning, and each thread drops the items that it judged.
-pub fn judge_file<W: Sink, R: Threads + Sync>(
-    rt: &R,
+/// The lines or objects of the displayed items, numbered from 1.
+fn shown_item_results(
     alloc: Global,
-    input: &[u8],
+    form: OutputForm,
     shown: Shown,
-    sink: &mut W,
-) -> (Status, Option<JudgedFile>)
-    requires { W.broken sink.old ≡ false }
-    ensures prints { Prints (IsShownOutput shown input.now)
-        (W.taken sink.old) (W.taken sink.new) (W.broken sink.new) result.0 }
-    ensures held { IfSome result.1 (λ file. HoldsJudged false input.now file.compiled
-        (joined file.runs.items) file.judged.items) }
-    ensures lawful { IfSome result.1
-        (λ judged. All (λ runs. AreLawful judged.compiled runs.items) judged.runs.items) }
+    answers: &[ItemResult],
+) -> Result<Vec<u8>, AllocError>
+    ensures { IfOk result (λ text. text.items ≡ shown_results form shown answers.now) }
 {
-    judge_file_with_progress(rt, alloc, input, shown, &ProgressCounter::new(), sink)
+    match form {
+        OutputForm::Text => Ok(shown_item_result_lines(alloc, shown, answers)?.into_bytes()),
+        OutputForm::Json => shown_item_json_objects(alloc, shown, answers),
+    }
 }
 
-/// Does what [`judge_file`] does, and counts the items that are judged in `steps`.
-pub fn judge_file_with_progress<W: Sink, R: Threads + Sync>(
+/// The lines or objects of the items after the model, and all results; or the refusal of the model.
+fn judge_each<R: Threads + Sync>(
     rt: &R,
     alloc: Global,
     input: &[u8],
+    form: OutputForm,
     shown: Shown,
     steps: &ProgressCounter,
-    sink: &mut W,
-) -> (Status, Option<JudgedFile>)
-    requires { W.broken sink.old ≡ false }
-    ensures prints { Prints (IsShownOutput shown input.now)
-        (W.taken sink.old) (W.taken sink.new) (W.broken sink.new) result.0 }
-    ensures held { IfSome result.1 (λ file. HoldsJudged false input.now file.compiled
-        (joined file.runs.items) file.judged.items) }
-    ensures lawful { IfSome result.1
-        (λ judged. All (λ runs. AreLawful judged.compiled runs.items) judged.runs.items) }
+) -> Result<JudgeAnswer, AllocError>
+    ensures output { IfOk result (λ r. Answers (each_answer form shown input.now) r.0) }
+    ensures held { IfOk result (λ r. IfSome r.1 (HoldsJudging input.now)) }
 {
-    judge_file_and_keep_items(rt, alloc, input, shown, Keep::ForWarnings, steps, sink)
+    let answered = match judge_each_item_of_input(rt, alloc, input, steps)? {
+        Ok(answered) => answered,
+        Err(refusal) => return Ok((refused_model_answer(alloc, form, &refusal)?, None)),
+    };
+    let answers = answered.answers.as_slice();
+    let answer = Answer {
+        text: shown_item_results(alloc, form, shown, answers)?,
+        status: worst_status_of_item_results(answers),
+        refuses: false,
+    };
+    Ok((answer, Some(Judging::Each(answered))))
+}
+
+/// What `pst judge` writes, and what was judged if the input was not refused.
+fn judge_answer<R: Threads + Sync>(
+    rt: &R,
+    alloc: Global,
+    input: &[u8],
+    options: JudgeOptions,
+    steps: &ProgressCounter,
+) -> Result<JudgeAnswer, AllocError>
+    ensures output { IfOk result (λ r. Answers (IsJudgeAnswer options input.now) r.0) }
+    ensures held { IfOk result (λ r. IfSome r.1 (HoldsJudging input.now)) }
+{
+    let shown = options.shown;
+    match options.form {
+        OutputForm::Json => judge_each(rt, alloc, input, OutputForm::Json, shown, steps),
+        OutputForm::Text => {
+            if options.keeps_going {
+                return judge_each(rt, alloc, input, OutputForm::Text, shown, steps);
+            }
+            let keep = Keep::for_warnings(options.keeps_runs);
+            judge_up_to_refusal(rt, alloc, input, shown, keep, steps)
+        }
+    }
+}
+
+/// The answer by itself, and what was judged.
+fn split_judging(
+    judged: Result<JudgeAnswer, AllocError>,
+) -> (Result<Answer, AllocError>, Option<Judging>)
+    ensures { MatchResult judged (λ j. (result.0 ≡ Ok j.0) × (result.1 ≡ j.1))
+        (λ e. (result.0 ≡ Err e) × (result.1 ≡ None)) }
+{
+    match judged {
+        Ok((answer, judging)) => (Ok(answer), judging),
+        Err(AllocError) => (Err(AllocError), None),
+    }
+}
+
+/// Judges the items after the model at the start of the input, several at once, and returns the status, and what was
+/// judged unless the input is refused or an allocation fails.
+///
+/// As text without `keeps_going`, writes what [`judge_text`] does; with it, what [`judge_text_keep_going`] does. As
+/// JSON, writes a line with an object for each item, in their order: its number and its verdict, or why it is refused;
+/// if the input is no file of trees, or the model is refused, the object of that refusal alone; if an allocation fails,
+/// [`MEMORY_OBJECT`](crate::MEMORY_OBJECT) alone. With [`Shown::Failures`] leaves out the items that are explained or
+/// valid, with the same status. Writes nothing before all items are judged.
+pub fn judge_items<F: Sink, W: Sink, R: Threads + Sync, A: Attendant>(
+    rt: &R,
+    alloc: Global,
+    input: &[u8],
+    options: JudgeOptions,
+    attendant: &mut A,
+    to: &mut Destinations<F, W>,
+) -> (Status, Option<Judging>)
+    requires stands { Stands F.broken W.broken to.old }
+    ensures prints { Reaches (memory_of options.form) (IsJudgeAnswer options input.now)
+        (Delivers F.taken F.broken W.taken W.broken to.old to.new result.0) }
+    ensures held { IfSome result.1 (HoldsJudging input.now) }
+{
+    let judged = judge_answer(rt, alloc, input, options, attendant.steps());
+    let (answer, judging) = split_judging(judged);
+    attendant.before_output();
+    (deliver(&answer, memory_text(options.form), to), judging)
 }
 
 /// Judges the items after the model at the start of the input, several at once, and returns the status. Writes a line
@@ -195,14 +282,82 @@ pub fn judge_text<W: Sink, R: Threads + Sync>(
         (W.taken sink.old) (W.taken sink.new) (W.broken sink.new) result }
 {
     let steps = ProgressCounter::new();
-    let (status, _) = judge_file_and_keep_items(
-        rt,
-        alloc,
-        input,
-        Shown::All,
-        Keep::Nothing,
-        &steps,
-        sink,
-    );
+    let judged = judge_up_to_refusal(rt, alloc, input, Shown::All, Keep::Nothing, &steps);
+    let (answer, _) = split_judging(judged);
+    send(&answer, MEMORY_LINE, sink)
+}
+
+/// Does what [`judge_text`] does, but with [`Shown::Failures`] writes only the lines of items that are neither
+/// explained nor valid, with the same status. Returns the judgements if all items were judged, and with them the items
+/// if the precondition of some operation is another expression than `true`.
+pub fn judge_file<W: Sink, R: Threads + Sync>(
+    rt: &R,
+    alloc: Global,
+    input: &[u8],
+    shown: Shown,
+    sink: &mut W,
+) -> (Status, Option<JudgedFile>)
+    requires { W.broken sink.old ≡ false }
+    ensures prints { Prints (IsShownOutput shown input.now)
+        (W.taken sink.old) (W.taken sink.new) (W.broken sink.new) result.0 }
+    ensures held { IfSome result.1 (λ file. HoldsJudged false input.now file.compiled
+        (joined file.runs.items) file.judged.items) }
+    ensures lawful { IfSome result.1
+        (λ judged. All (λ runs. AreLawful judged.compiled runs.items) judged.runs.items) }
+{
+    let steps = ProgressCounter::new();
+    let judged = judge_up_to_refusal(rt, alloc, input, shown, Keep::ForWarnings, &steps);
+    let (answer, judging) = split_judging(judged);
+    let status = send(&answer, MEMORY_LINE, sink);
+    match judging {
+        Some(Judging::UpToRefusal(file)) => (status, Some(file)),
+        _ => (status, None),
+    }
+}
+
+/// Judges each item after the model at the start of the input, several at once, even if other items are refused. Writes
+/// a line for each, in their order, and returns the status: `NUMBER VERDICT`, or `refused run NUMBER command C KIND` if
+/// the item is refused. If the input is no file of trees, or the model is refused, writes that refusal alone. Writes
+/// nothing before all items are judged. If an allocation fails, writes `refused memory` alone.
+///
+/// The status is `Refused` if an item is refused, else `Failed` if one is not explained or not valid, else `Accepted`;
+/// `Refused` if the model is refused; `Lost` if an allocation or the writer failed. If no item is refused, the lines
+/// and the status are those of `judge_text`.
+pub fn judge_text_keep_going<W: Sink, R: Threads + Sync>(
+    rt: &R,
+    alloc: Global,
+    input: &[u8],
+    sink: &mut W,
+) -> Status
+    requires { W.broken sink.old ≡ false }
+    ensures { Prints (IsKeepingOnOutput input.now)
+        (W.taken sink.old) (W.taken sink.new) (W.broken sink.new) result }
+{
+    let (status, _) = judge_file_keep_going(rt, alloc, input, Shown::All, sink);
     status
+}
+
+/// Does what [`judge_text_keep_going`] does, but with [`Shown::Failures`] writes only the lines of items that are
+/// refused, or neither explained nor valid, with the same status. Returns the answers if the items were judged.
+pub fn judge_file_keep_going<W: Sink, R: Threads + Sync>(
+    rt: &R,
+    alloc: Global,
+    input: &[u8],
+    shown: Shown,
+    sink: &mut W,
+) -> (Status, Option<FileWithItemResults>)
+    requires { W.broken sink.old ≡ false }
+    ensures prints { Prints (IsShownKeepingOn shown input.now)
+        (W.taken sink.old) (W.taken sink.new) (W.broken sink.new) result.0 }
+    ensures held { IfSome result.1 (λ answered. HoldsAnswers input.now answered.file.compiled
+        answered.file.trees.items answered.answers.items) }
+{
+    let steps = ProgressCounter::new();
+    let judged = judge_each(rt, alloc, input, OutputForm::Text, shown, &steps);
+    let (answer, judging) = split_judging(judged);
+    let status = send(&answer, MEMORY_LINE, sink);
+    match judging {
+        Some(Judging::Each(answered)) => (status, Some(answered)),
+        _ => (status, None),
+    }
 }

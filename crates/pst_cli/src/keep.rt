@@ -1,18 +1,16 @@
-//! `pst judge --keep-going`.
-ghost use Rattle.std.specs.Prelude.{◌≡◌, ◌+◌, ◌++◌, false, IfOk, IfSome, MatchResult, OnOk, string_bytes};
-ghost use Rattle.pst_cli.specs.KeepingOn.{HoldsAnswers, IsKeepingOnOutput, IsShownKeepingOn, answer_line, answer_lines, answer_status, failed_answer_line, failed_answer_lines, is_good_answer, shown_answer_lines, worst_status};
-ghost use Rattle.pst_cli.specs.Sending.{Prints};
-ghost use Rattle.pst_cli.specs.declared.output.Status.TheVariants.{Accepted};
+//! The lines of items, of which some may be refused: `pst judge --keep-going`.
+ghost use Rattle.std.specs.Prelude.{◌≡◌, ◌+◌, ◌++◌, IfOk, MatchResult, OnOk, string_bytes};
+ghost use Rattle.pst_cli.specs.KeepingOn.{HoldsAnswers, answer_line, answer_lines, answer_status, failed_answer_line, failed_answer_lines, is_good_answer, shown_answer_lines, worst_status};
+ghost use Rattle.pst_cli.specs.declared.answer.Status.TheVariants.{Accepted};
 ghost use Rattle.pst_typing.specs.Loading.{IsRefusal};
 
+use crate::answer::Status;
 use crate::input::{CompiledModelAndTrees, compile_model_of_input, prove_compiled_models_are_sync};
 use crate::judge::{is_explained_or_valid, refused_run_line};
 use crate::lines::{Shown, add_item_verdict_line};
-use crate::output::{Output, Status, refusal_output, write_with_status_or_lost};
 use crate::run::status_of_judgement;
 use pst_rejudge::{ItemResult, ProgressCounter, read_and_judge_each_tree};
 use pst_runs::RunFault;
-use pst_sexpr::Sink;
 use pst_typing::{Refusal, trees_after_model};
 use std::alloc::{AllocError, Global};
 use std::thread::Threads;
@@ -98,7 +96,7 @@ fn failed_item_result_lines(alloc: Global, answers: &[ItemResult]) -> Result<Str
 }
 
 /// The lines of the displayed items, numbered from 1.
-fn shown_item_result_lines(
+pub(crate) fn shown_item_result_lines(
     alloc: Global,
     shown: Shown,
     answers: &[ItemResult],
@@ -170,93 +168,4 @@ pub(crate) fn judge_each_item_of_input<R: Threads + Sync>(
     let typed = file.compiled.typed();
     let answers = read_and_judge_each_tree(rt, &file.compiled, alloc, typed, items, steps)?;
     Ok(Ok(FileWithItemResults { file, answers }))
-}
-
-/// The lines of the displayed items after the model, and all answers; or the refusal of the model.
-fn output_of_judge_command_keep_going<R: Threads + Sync>(
-    rt: &R,
-    alloc: Global,
-    input: &[u8],
-    shown: Shown,
-    steps: &ProgressCounter,
-) -> Result<(Output, Option<FileWithItemResults>), AllocError>
-    ensures output { IfOk result (λ r. IsShownKeepingOn shown input.now r.0.text.items r.0.status) }
-    ensures held { IfOk result (λ r. IfSome r.1 (λ answered. HoldsAnswers input.now answered.file.compiled
-        answered.file.trees.items answered.answers.items)) }
-{
-    let answered = match judge_each_item_of_input(rt, alloc, input, steps)? {
-        Ok(answered) => answered,
-        Err(refusal) => return Ok((refusal_output(alloc, &refusal)?, None)),
-    };
-    let answers = answered.answers.as_slice();
-    let text = shown_item_result_lines(alloc, shown, answers)?;
-    let output = Output::new(text, worst_status_of_item_results(answers));
-    Ok((output, Some(answered)))
-}
-
-/// Does what [`judge_text_keep_going`] does, but with [`Shown::Failures`] writes only the lines of items that are
-/// refused, or neither explained nor valid, with the same status. Returns the answers if the items were judged.
-pub fn judge_file_keep_going<W: Sink, R: Threads + Sync>(
-    rt: &R,
-    alloc: Global,
-    input: &[u8],
-    shown: Shown,
-    sink: &mut W,
-) -> (Status, Option<FileWithItemResults>)
-    requires { W.broken sink.old ≡ false }
-    ensures prints { Prints (IsShownKeepingOn shown input.now)
-        (W.taken sink.old) (W.taken sink.new) (W.broken sink.new) result.0 }
-    ensures held { IfSome result.1 (λ answered. HoldsAnswers input.now answered.file.compiled
-        answered.file.trees.items answered.answers.items) }
-{
-    judge_file_keep_going_with_progress(rt, alloc, input, shown, &ProgressCounter::new(), sink)
-}
-
-/// Does what [`judge_file_keep_going`] does, and counts the items that are judged in `steps`.
-pub fn judge_file_keep_going_with_progress<W: Sink, R: Threads + Sync>(
-    rt: &R,
-    alloc: Global,
-    input: &[u8],
-    shown: Shown,
-    steps: &ProgressCounter,
-    sink: &mut W,
-) -> (Status, Option<FileWithItemResults>)
-    requires { W.broken sink.old ≡ false }
-    ensures prints { Prints (IsShownKeepingOn shown input.now)
-        (W.taken sink.old) (W.taken sink.new) (W.broken sink.new) result.0 }
-    ensures held { IfSome result.1 (λ answered. HoldsAnswers input.now answered.file.compiled
-        answered.file.trees.items answered.answers.items) }
-{
-    match output_of_judge_command_keep_going(rt, alloc, input, shown, steps) {
-        Ok((output, answered)) => (
-            write_with_status_or_lost(output.text.as_slice(), output.status, sink),
-            answered,
-        ),
-        Err(AllocError) => (
-            write_with_status_or_lost(b"refused memory\n", Status::Lost, sink),
-            None,
-        ),
-    }
-}
-
-/// Judges each item after the model at the start of the input, several at once, even if other items are refused. Writes
-/// a line for each, in their order, and returns the status: `NUMBER VERDICT`, or `refused run NUMBER command C KIND` if
-/// the item is refused. If the input is no file of trees, or the model is refused, writes that refusal alone. Writes
-/// nothing before all items are judged. If an allocation fails, writes `refused memory` alone.
-///
-/// The status is `Refused` if an item is refused, else `Failed` if one is not explained or not valid, else `Accepted`;
-/// `Refused` if the model is refused; `Lost` if an allocation or the writer failed. If no item is refused, the lines
-/// and the status are those of `judge_text`.
-pub fn judge_text_keep_going<W: Sink, R: Threads + Sync>(
-    rt: &R,
-    alloc: Global,
-    input: &[u8],
-    sink: &mut W,
-) -> Status
-    requires { W.broken sink.old ≡ false }
-    ensures { Prints (IsKeepingOnOutput input.now)
-        (W.taken sink.old) (W.taken sink.new) (W.broken sink.new) result }
-{
-    let (status, _) = judge_file_keep_going(rt, alloc, input, Shown::All, sink);
-    status
 }

@@ -1,13 +1,20 @@
 //! The commands that only read a model or its items and write them: `pst check`, `pst list` and `pst convert`.
 ghost use Rattle.std.specs.Prelude.{◌≡◌, false, IfOk, string_bytes};
+ghost use Rattle.pst_cli.specs.Answering.{Delivers, Reaches, Stands, memory_of};
+ghost use Rattle.pst_cli.specs.Answers.{Answers};
+ghost use Rattle.pst_cli.specs.Commands.{check_answer};
 ghost use Rattle.pst_cli.specs.Output.{IsCheckOutput, ok_line};
-ghost use Rattle.pst_cli.specs.Sending.{Prints};
+ghost use Rattle.pst_cli.specs.Sending.{Prints, memory_line};
 ghost use Rattle.pst_cli.specs.ListOutput.{IsListOutput};
 ghost use Rattle.pst_cli.specs.ConvertOutput.{IsConvertOutput, line_in, lines_in};
 ghost use Rattle.pst_runs.specs.Lawful.{AreLawful, IsLawful};
 
+use crate::answer::{
+    Answer, Destinations, MEMORY_LINE, OutputForm, Status, deliver, memory_text, refusal_answer,
+    send,
+};
 use crate::input::{ModelAndRuns, compile_model_of_input, read_model_and_runs_of_input};
-use crate::output::{Output, Status, refusal_output, write_with_status_or_lost};
+use crate::objects::check_object_answer;
 use crate::run::tree_line_of_run;
 use pst_case::Run;
 use pst_compile::listing;
@@ -26,12 +33,31 @@ fn accepted_model_line(alloc: Global, typed: &Typed) -> Result<String, AllocErro
 }
 
 /// `ok NAME`, or the first refusal.
-fn output_of_check_command(alloc: Global, input: &[u8]) -> Result<Output, AllocError>
-    ensures { IfOk result (λ output. IsCheckOutput input.now (output.text.items) output.status) }
+fn check_line_answer(alloc: Global, input: &[u8]) -> Result<Answer, AllocError>
+    ensures { IfOk result (Answers (IsCheckOutput input.now)) }
 {
     match load(alloc, input)? {
-        Ok(file) => Ok(Output::new(accepted_model_line(alloc, &file.typed)?, Status::Accepted)),
-        Err(refusal) => refusal_output(alloc, &refusal),
+        Ok(file) => Ok(Answer {
+            text: accepted_model_line(alloc, &file.typed)?.into_bytes(),
+            status: Status::Accepted,
+            refuses: false,
+        }),
+        Err(refusal) => refusal_answer(alloc, &refusal),
+    }
+}
+
+/// The model's name, or its first refusal, in a form. `notices` follow an object.
+fn check_answer(
+    alloc: Global,
+    input: &[u8],
+    form: OutputForm,
+    notices: &[u8],
+) -> Result<Answer, AllocError>
+    ensures { IfOk result (Answers (check_answer form notices.now input.now)) }
+{
+    match form {
+        OutputForm::Text => check_line_answer(alloc, input),
+        OutputForm::Json => check_object_answer(alloc, input, notices),
     }
 }
 
@@ -42,25 +68,40 @@ pub fn check_text<W: Sink>(alloc: Global, input: &[u8], sink: &mut W) -> Status
     ensures { Prints (IsCheckOutput input.now) (W.taken sink.old) (W.taken sink.new) (W.broken sink.new)
         result }
 {
-    match output_of_check_command(alloc, input) {
-        Ok(output) => write_with_status_or_lost(output.text.as_slice(), output.status, sink),
-        Err(AllocError) => write_with_status_or_lost(b"refused memory\n", Status::Lost, sink),
-    }
+    send(&check_line_answer(alloc, input), MEMORY_LINE, sink)
+}
+
+/// Does what [`check_text`] does. As JSON, writes the object of the model or of its refusal, and then the notices, which
+/// are lines of objects.
+pub fn check_model<F: Sink, W: Sink>(
+    alloc: Global,
+    input: &[u8],
+    form: OutputForm,
+    notices: &[u8],
+    to: &mut Destinations<F, W>,
+) -> Status
+    requires stands { Stands F.broken W.broken to.old }
+    ensures prints { Reaches (memory_of form) (check_answer form notices.now input.now)
+        (Delivers F.taken F.broken W.taken W.broken to.old to.new result) }
+{
+    deliver(
+        &check_answer(alloc, input, form, notices),
+        memory_text(form),
+        to,
+    )
 }
 
 /// The listing of the model, or the first refusal.
-fn output_of_list_command(alloc: Global, input: &[u8]) -> Result<Output, AllocError>
-    ensures { IfOk result (λ output. IsListOutput input.now output.text.items output.status) }
+fn list_answer(alloc: Global, input: &[u8]) -> Result<Answer, AllocError>
+    ensures { IfOk result (Answers (IsListOutput input.now)) }
 {
     match compile_model_of_input(alloc, input)? {
-        Ok(file) => {
-            let text = listing(alloc, &file.compiled)?;
-            Ok(Output {
-                text: text.into_vec(),
-                status: Status::Accepted,
-            })
-        }
-        Err(refusal) => refusal_output(alloc, &refusal),
+        Ok(file) => Ok(Answer {
+            text: listing(alloc, &file.compiled)?.into_vec(),
+            status: Status::Accepted,
+            refuses: false,
+        }),
+        Err(refusal) => refusal_answer(alloc, &refusal),
     }
 }
 
@@ -71,10 +112,20 @@ pub fn list_text<W: Sink>(alloc: Global, input: &[u8], sink: &mut W) -> Status
     ensures { Prints (IsListOutput input.now)
         (W.taken sink.old) (W.taken sink.new) (W.broken sink.new) result }
 {
-    match output_of_list_command(alloc, input) {
-        Ok(output) => write_with_status_or_lost(output.text.as_slice(), output.status, sink),
-        Err(AllocError) => write_with_status_or_lost(b"refused memory\n", Status::Lost, sink),
-    }
+    send(&list_answer(alloc, input), MEMORY_LINE, sink)
+}
+
+/// Does what [`list_text`] does.
+pub fn list_model<F: Sink, W: Sink>(
+    alloc: Global,
+    input: &[u8],
+    to: &mut Destinations<F, W>,
+) -> Status
+    requires stands { Stands F.broken W.broken to.old }
+    ensures prints { Reaches memory_line (IsListOutput input.now)
+        (Delivers F.taken F.broken W.taken W.broken to.old to.new result) }
+{
+    deliver(&list_answer(alloc, input), MEMORY_LINE, to)
 }
 
 /// How items are spelled.
@@ -122,32 +173,32 @@ fn item_lines_in_form(
 }
 
 /// The items of an input in a form, or its first refusal.
-fn output_of_convert_command(
-    alloc: Global,
-    input: &[u8],
-    form: ItemForm,
-) -> Result<Output, AllocError>
-    ensures { IfOk result (λ output. IsConvertOutput form input.now output.text.items output.status) }
+fn convert_answer(alloc: Global, input: &[u8], form: ItemForm) -> Result<Answer, AllocError>
+    ensures { IfOk result (Answers (IsConvertOutput form input.now)) }
 {
     let ModelAndRuns { compiled, runs } = match read_model_and_runs_of_input(alloc, input)? {
         Ok(read) => read,
-        Err(output) => return Ok(output),
+        Err(answer) => return Ok(answer),
     };
     let text = item_lines_in_form(alloc, form, compiled.typed(), runs.as_slice())?;
-    Ok(Output {
+    Ok(Answer {
         text,
         status: Status::Accepted,
+        refuses: false,
     })
 }
 
-/// Writes the items of the input in a form, one on each line, or the first refusal alone, and returns the status.
-pub fn convert_text<W: Sink>(alloc: Global, input: &[u8], form: ItemForm, sink: &mut W) -> Status
-    requires { W.broken sink.old ≡ false }
-    ensures { Prints (IsConvertOutput form input.now)
-        (W.taken sink.old) (W.taken sink.new) (W.broken sink.new) result }
+/// Writes the items of the input in a form, one on each line, or the first refusal alone, and returns the status. If an
+/// allocation fails, writes `refused memory` alone.
+pub fn convert_items<F: Sink, W: Sink>(
+    alloc: Global,
+    input: &[u8],
+    form: ItemForm,
+    to: &mut Destinations<F, W>,
+) -> Status
+    requires stands { Stands F.broken W.broken to.old }
+    ensures prints { Reaches memory_line (IsConvertOutput form input.now)
+        (Delivers F.taken F.broken W.taken W.broken to.old to.new result) }
 {
-    match output_of_convert_command(alloc, input, form) {
-        Ok(output) => write_with_status_or_lost(output.text.as_slice(), output.status, sink),
-        Err(AllocError) => write_with_status_or_lost(b"refused memory\n", Status::Lost, sink),
-    }
+    deliver(&convert_answer(alloc, input, form), MEMORY_LINE, to)
 }

@@ -3,13 +3,11 @@
 ghost use Rattle.pst_report.specs.InOrder.{AreOf};
 
 use crate::failure_page::CampaignFailures;
+use crate::losses::{LostTrials, lost_trials_by_cause};
 use pst_case::{Case, History};
 use pst_ledger::{Closed, Entry};
-use pst_rejudge::Field;
 use pst_report::{
-    NumberedFailure, add_lost_trials_and_first_failure, campaign_report_fields_before_losses,
-    distinct_failures, first_failed_trial, first_trial_with_generation_fault,
-    status_of_stoppable_campaign,
+    NumberedFailure, distinct_failures, first_failed_trial, first_trial_with_generation_fault,
 };
 use pst_trial::{Plan, Record, TrialOutcome};
 use std::alloc::{AllocError, Global};
@@ -34,8 +32,8 @@ pub struct CampaignNotes {
     pub shorter: Option<ShorterFailure>,
     /// The number of the first trial whose case could not be generated, from 0.
     pub first_genfault: Option<usize>,
-    /// The members of the report as a JSON object; none if no trial began.
-    pub report: Option<Vec<Field>>,
+    /// The trials that were lost, for each cause that one was lost for; none if no trial began.
+    pub lost: Option<Vec<LostTrials>>,
     /// The failures to explain on a page, if they are kept and a trial began.
     pub explained: Option<CampaignFailures>,
     /// The failures to save, each shrunk case once, if they are kept and a trial began.
@@ -86,24 +84,6 @@ fn shortest_failure_if_shorter_than_first(
     shorter
 }
 
-/// The members of the report of a campaign as a JSON object.
-fn campaign_report_fields(
-    alloc: Global,
-    plan: &Plan,
-    closed: &Closed<Record>,
-) -> Result<Vec<Field>, AllocError>
-    requires { AreOf plan.now 0 closed.now }
-{
-    let mut fields = campaign_report_fields_before_losses(
-        alloc,
-        plan,
-        closed,
-        status_of_stoppable_campaign(closed),
-    )?;
-    add_lost_trials_and_first_failure(alloc, &mut fields, plan, closed.entries())?;
-    Ok(fields)
-}
-
 impl CampaignNotes {
     /// The notes before the first trial.
     pub fn new() -> CampaignNotes {
@@ -116,7 +96,7 @@ impl CampaignNotes {
             least: None,
             shorter: None,
             first_genfault: None,
-            report: None,
+            lost: None,
             explained: None,
             saved: None,
             for_page,
@@ -134,8 +114,8 @@ impl CampaignNotes {
         requires { AreOf plan.now 0 closed.now }
     {
         let entries = closed.entries();
-        self.report = Some(campaign_report_fields(alloc, plan, closed)?);
         self.keep_failures_if_wanted(alloc, plan, entries)?;
+        self.lost = Some(lost_trials_by_cause(alloc, entries)?);
         if let Some((number, _)) = first_trial_with_generation_fault(entries) {
             self.first_genfault = Some(number);
         }

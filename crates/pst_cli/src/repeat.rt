@@ -1,24 +1,19 @@
 //! `pst run --repeats`.
-ghost use Rattle.std.specs.Prelude.{◌≡◌, ◌<◌, ◌≤◌, ◌++◌, ◌+◌, ◌^◌, false, if◌then◌else◌, IfOk, string_bytes};
+ghost use Rattle.std.specs.Prelude.{◌≡◌, ◌<◌, ◌≤◌, ◌++◌, ◌+◌, ◌^◌, if◌then◌else◌, IfOk, string_bytes};
+ghost use Rattle.pst_cli.specs.Answers.{Answers};
 ghost use Rattle.pst_cli.specs.RepeatOutput.{AreRepeated, IsRepeatOutput, IsRepeated, ReportsAll, drives_line, is_accepted, shown_after};
-ghost use Rattle.pst_cli.specs.Sending.{Prints};
 ghost use Rattle.pst_runs.specs.Lawful.{AreLawful};
 ghost use Rattle.pst_system.specs.Kept.{AreKept};
 
+use crate::answer::{Answer, Output, Status, joined_outputs_with_worst_status};
 use crate::counts::ItemResultCounts;
-use crate::input::compile_model_of_input;
-use crate::judge::{output_of_refused_run, read_runs_of_trees};
-use crate::output::{
-    Output, Status, joined_outputs_with_worst_status, refusal_output, write_with_status_or_lost,
-};
+use crate::input::{ModelAndRuns, read_model_and_runs_of_input};
 use crate::run::{drive_and_report_valid_case, invalid_case_line};
 use pst_case::{Run, Shaped};
 use pst_compile::Compiled;
 use pst_judge::{Valid, valid};
 use pst_rejudge::ProgressCounter;
-use pst_sexpr::Sink;
 use pst_system::{BoxedSystem, System};
-use pst_typing::trees_after_model;
 use std::alloc::{AllocError, Global};
 use std::sync::Wait;
 use std::thread::Threads;
@@ -229,53 +224,14 @@ fn drive_items_repeatedly_and_join_reports<R: Threads + Wait>(
     joined_outputs_with_worst_status(alloc, Status::Accepted, reports.as_slice())
 }
 
-/// The reports of the items after the model, or the first refusal.
-fn read_and_drive_items_repeatedly<R: Threads + Wait>(
-    rt: &R,
-    alloc: Global,
-    input: &[u8],
-    system: &mut BoxedSystem,
-    repeats: u32,
-    counts: &mut ItemResultCounts,
-    steps: &ProgressCounter,
-) -> Result<Output, AllocError>
-    requires { 1 ≤ repeats }
-    ensures output { IfOk result (λ output.
-        IsRepeatOutput (answers system.old) (fails system.old) (reset_fails system.old)
-        repeats input.now output.text.items output.status) }
-    ensures kept { AreKept (answers system.new) (answers system.old) (fails system.new) (fails system.old)
-        (reset_fails system.new) (reset_fails system.old) }
-{
-    let file = match compile_model_of_input(alloc, input)? {
-        Ok(file) => file,
-        Err(refusal) => return refusal_output(alloc, &refusal),
-    };
-    let items = trees_after_model(file.trees.as_slice());
-    match read_runs_of_trees(alloc, file.compiled.typed(), items)? {
-        Ok(runs) => {
-            drive_items_repeatedly_and_join_reports(
-                rt,
-                alloc,
-                &file.compiled,
-                system,
-                runs.as_slice(),
-                repeats,
-                counts,
-                steps,
-            )
-        }
-        Err(fault) => output_of_refused_run(alloc, &fault),
-    }
-}
-
-/// Drives the case of each item after the model at the start of the input `repeats` times on the system, and returns
-/// the status. For each item, from 1, writes the run of the first drive that is not explained, or else of the last
-/// drive, as one tree, a line `NUMBER VERDICT`, and a line `NUMBER drives N failed K`: `K` of the `N` drives are not
-/// explained. For a case that is not valid, writes a line with the reason alone. If a drive is lost, writes a line
-/// `NUMBER lost KIND` alone and drives the case no more. Refusals and the status are those of `run_text`.
+/// The reports of the items after the model, each driven `repeats` times, or the first refusal. For each item, from 1,
+/// the report is the run of the first drive that is not explained, or else of the last drive, as one tree, a line
+/// `NUMBER VERDICT`, and a line `NUMBER drives N failed K`: `K` of the `N` drives are not explained. For a case that is
+/// not valid it is a line with the reason alone. If a drive is lost, it is a line `NUMBER lost KIND` alone, and the case
+/// is driven no more.
 ///
 /// Counts each item once, by its displayed report; `steps` counts the items that are driven.
-pub fn drive_input_items_repeatedly_and_report<W: Sink, R: Threads + Wait>(
+pub(crate) fn repeat_answer<R: Threads + Wait>(
     rt: &R,
     alloc: Global,
     input: &[u8],
@@ -283,21 +239,24 @@ pub fn drive_input_items_repeatedly_and_report<W: Sink, R: Threads + Wait>(
     repeats: u32,
     counts: &mut ItemResultCounts,
     steps: &ProgressCounter,
-    sink: &mut W,
-) -> Status
-    requires some { 1 ≤ repeats }
-    requires stands { W.broken sink.old ≡ false }
-    ensures prints { Prints
-        (IsRepeatOutput (answers system.old) (fails system.old) (reset_fails system.old) repeats input.now)
-        (W.taken sink.old) (W.taken sink.new) (W.broken sink.new) result }
+) -> Result<Answer, AllocError>
+    requires { 1 ≤ repeats }
+    ensures output { IfOk result (Answers
+        (IsRepeatOutput (answers system.old) (fails system.old) (reset_fails system.old) repeats input.now)) }
     ensures kept { AreKept (answers system.new) (answers system.old) (fails system.new) (fails system.old)
         (reset_fails system.new) (reset_fails system.old) }
 {
-    match read_and_drive_items_repeatedly(rt, alloc, input, system, repeats, counts, steps) {
-        Ok(output) => write_with_status_or_lost(output.text.as_slice(), output.status, sink),
-        Err(AllocError) => {
-            *counts = ItemResultCounts::new();
-            write_with_status_or_lost(b"refused memory\n", Status::Lost, sink)
-        }
-    }
+    let ModelAndRuns { compiled, runs } = match read_model_and_runs_of_input(alloc, input)? {
+        Ok(read) => read,
+        Err(answer) => return Ok(answer),
+    };
+    let runs = runs.as_slice();
+    let Output { text, status } = drive_items_repeatedly_and_join_reports(
+        rt, alloc, &compiled, system, runs, repeats, counts, steps,
+    )?;
+    Ok(Answer {
+        text,
+        status,
+        refuses: false,
+    })
 }

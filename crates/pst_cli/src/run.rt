@@ -1,9 +1,10 @@
 //! `pst run`.
 ghost use Rattle.std.specs.Prelude.{◌≡◌, false, IfOk, OnOk, string_bytes};
+ghost use Rattle.pst_cli.specs.Answers.{Answers};
 ghost use Rattle.pst_cli.specs.Output.{item_line};
 ghost use Rattle.pst_cli.specs.RunOutput.{AreReported, IsReported, IsRunOutput, status_of_one};
 ghost use Rattle.pst_cli.specs.Sending.{Prints};
-ghost use Rattle.pst_cli.specs.declared.output.Status.TheVariants.{Accepted};
+ghost use Rattle.pst_cli.specs.declared.answer.Status.TheVariants.{Accepted};
 ghost use Rattle.pst_judge.specs.declared.judgement.Judged.TheVariants as kind;
 ghost use Rattle.pst_judge.specs.declared.validated.Why.TheVariants as reasons;
 ghost use Rattle.pst_runs.specs.Lawful.{AreLawful, IsLawful};
@@ -12,12 +13,12 @@ ghost use Rattle.pst_runs.specs.Written.{run_form};
 ghost use Rattle.pst_sexpr.specs.Writing.{Writes};
 ghost use Rattle.pst_system.specs.Kept.{AreKept};
 
+use crate::answer::{Answer, MEMORY_LINE, Output, Status, send};
 use crate::counts::ItemResultCounts;
-use crate::input::compile_model_of_input;
+use crate::input::{ModelAndRuns, read_model_and_runs_of_input};
 use crate::item_report::{drive_case_and_report_item, output_of_item_report};
-use crate::judge::{is_explained_or_valid, output_of_refused_run, read_runs_of_trees};
+use crate::judge::is_explained_or_valid;
 use crate::lines::item_verdict_line;
-use crate::output::{Output, Status, refusal_output, write_with_status_or_lost};
 use pst_case::{Run, Shaped};
 use pst_compile::Compiled;
 use pst_judge::{Judged, Valid, Why, valid};
@@ -26,7 +27,6 @@ use pst_rejudge::ProgressCounter;
 use pst_runs::run_tree;
 use pst_sexpr::{Out, Sink, Tree, WriteFailed, put_all, write};
 use pst_system::{BoxedSystem, System};
-use pst_typing::trees_after_model;
 use std::alloc::{AllocError, Global};
 use std::sync::Wait;
 use std::thread::Threads;
@@ -171,38 +171,33 @@ fn drive_and_report_items<R: Threads + Wait>(
     Ok(Output { text, status })
 }
 
-/// The reports of the items after the model, or the first refusal.
-fn read_and_drive_items_of_input<R: Threads + Wait>(
+/// The reports of the items after the model, each driven once, or the first refusal.
+pub(crate) fn run_answer<R: Threads + Wait>(
     rt: &R,
     alloc: Global,
     input: &[u8],
     system: &mut BoxedSystem,
     counts: &mut ItemResultCounts,
     steps: &ProgressCounter,
-) -> Result<Output, AllocError>
-    ensures output { IfOk result (λ output.
-        IsRunOutput (answers system.old) (fails system.old) (reset_fails system.old)
-        input.now output.text.items output.status) }
+) -> Result<Answer, AllocError>
+    ensures output { IfOk result
+        (Answers (IsRunOutput (answers system.old) (fails system.old) (reset_fails system.old) input.now)) }
     ensures kept { AreKept (answers system.new) (answers system.old) (fails system.new) (fails system.old)
         (reset_fails system.new) (reset_fails system.old) }
 {
-    let file = match compile_model_of_input(alloc, input)? {
-        Ok(file) => file,
-        Err(refusal) => return refusal_output(alloc, &refusal),
+    let ModelAndRuns { compiled, runs } = match read_model_and_runs_of_input(alloc, input)? {
+        Ok(read) => read,
+        Err(answer) => return Ok(answer),
     };
-    let items = trees_after_model(file.trees.as_slice());
-    match read_runs_of_trees(alloc, file.compiled.typed(), items)? {
-        Ok(runs) => drive_and_report_items(
-            rt,
-            alloc,
-            &file.compiled,
-            system,
-            runs.as_slice(),
-            counts,
-            steps,
-        ),
-        Err(fault) => output_of_refused_run(alloc, &fault),
-    }
+    let runs = runs.as_slice();
+    let Output { text, status } = drive_and_report_items(
+        rt, alloc, &compiled, system, runs, counts, steps,
+    )?;
+    Ok(Answer {
+        text,
+        status,
+        refuses: false,
+    })
 }
 
 /// Drives the case of each item after the model at the start of the input once on the system, and returns the status.
@@ -228,40 +223,8 @@ pub fn run_text<W: Sink, R: Threads + Wait>(
     ensures kept { AreKept (answers system.new) (answers system.old) (fails system.new) (fails system.old)
         (reset_fails system.new) (reset_fails system.old) }
 {
-    run_text_with_counts_and_progress(
-        rt,
-        alloc,
-        input,
-        system,
-        &mut ItemResultCounts::new(),
-        &ProgressCounter::new(),
-        sink,
-    )
-}
-
-/// Does what [`run_text`] does, counts the items that are driven in `steps`, and adds the result of each reported item
-/// to `counts`. If an allocation outside the driver fails, sets all counts to zero.
-pub fn run_text_with_counts_and_progress<W: Sink, R: Threads + Wait>(
-    rt: &R,
-    alloc: Global,
-    input: &[u8],
-    system: &mut BoxedSystem,
-    counts: &mut ItemResultCounts,
-    steps: &ProgressCounter,
-    sink: &mut W,
-) -> Status
-    requires { W.broken sink.old ≡ false }
-    ensures prints { Prints
-        (IsRunOutput (answers system.old) (fails system.old) (reset_fails system.old) input.now)
-        (W.taken sink.old) (W.taken sink.new) (W.broken sink.new) result }
-    ensures kept { AreKept (answers system.new) (answers system.old) (fails system.new) (fails system.old)
-        (reset_fails system.new) (reset_fails system.old) }
-{
-    match read_and_drive_items_of_input(rt, alloc, input, system, counts, steps) {
-        Ok(output) => write_with_status_or_lost(output.text.as_slice(), output.status, sink),
-        Err(AllocError) => {
-            *counts = ItemResultCounts::new();
-            write_with_status_or_lost(b"refused memory\n", Status::Lost, sink)
-        }
-    }
+    let mut counts = ItemResultCounts::new();
+    let steps = ProgressCounter::new();
+    let answer = run_answer(rt, alloc, input, system, &mut counts, &steps);
+    send(&answer, MEMORY_LINE, sink)
 }

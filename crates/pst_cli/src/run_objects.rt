@@ -1,13 +1,16 @@
 //! `pst run --format json`.
-ghost use Rattle.std.specs.Prelude.{◌≡◌, false};
+ghost use Rattle.std.specs.Prelude.{◌≡◌, IfOk};
+ghost use Rattle.pst_cli.specs.Answering.{Unsaid};
+ghost use Rattle.pst_cli.specs.Answers.{Answers};
+ghost use Rattle.pst_system.specs.Kept.{AreKept};
 ghost use Rattle.pst_runs.specs.Lawful.{AreLawful};
 
+use crate::answer::{Answer, Output, Status};
 use crate::counts::ItemResultCounts;
 use crate::input::compile_model_of_input;
 use crate::item_report::{ItemReport, drive_case_and_report_item, status_of_item_report};
 use crate::judge::read_runs_of_trees;
-use crate::objects::{MEMORY_OBJECT, output_of_refusal_json_object};
-use crate::output::{Output, Status, write_with_status_or_lost};
+use crate::objects::refusal_object_answer;
 use crate::repeat::first_failed_or_latest_drive_counts;
 use pst_case::{Run, Shaped};
 use pst_compile::Compiled;
@@ -18,8 +21,7 @@ use pst_rejudge::{
     judged_item_fields, refused_item_fields,
 };
 use pst_runs::RunFault;
-use pst_sexpr::Sink;
-use pst_system::BoxedSystem;
+use pst_system::{BoxedSystem, System};
 use pst_typing::trees_after_model;
 use pst_value::Text;
 use std::alloc::{AllocError, Global};
@@ -97,6 +99,8 @@ fn drive_copy_of_valid_case<R: Threads + Wait>(
     drive: &mut ItemResultCounts,
 ) -> Result<ItemReport, AllocError>
     requires { valid.now.model ≡ compiled.now }
+    ensures { AreKept (answers system.new) (answers system.old) (fails system.new) (fails system.old)
+        (reset_fails system.new) (reset_fails system.old) }
 {
     let copy = valid.copy(alloc, compiled.typed().source())?;
     drive_case_and_report_item(rt, alloc, compiled, system, number, copy, drive)
@@ -115,6 +119,8 @@ fn drive_valid_case_repeatedly<R: Threads + Wait>(
     counts: &mut ItemResultCounts,
 ) -> Result<ReportWithDriveCounts, AllocError>
     requires { valid.now.model ≡ compiled.now }
+    ensures { AreKept (answers system.new) (answers system.old) (fails system.new) (fails system.old)
+        (reset_fails system.new) (reset_fails system.old) }
 {
     let mut so_far = DrivesSoFar::new();
     for _drive in 0..repeats {
@@ -153,6 +159,8 @@ fn drive_valid_case_as_often_as_asked<R: Threads + Wait>(
     counts: &mut ItemResultCounts,
 ) -> Result<ReportWithDriveCounts, AllocError>
     requires { valid.model ≡ compiled.now }
+    ensures { AreKept (answers system.new) (answers system.old) (fails system.new) (fails system.old)
+        (reset_fails system.new) (reset_fails system.old) }
 {
     match repeats {
         Some(repeats) if repeats > 0 => {
@@ -195,6 +203,8 @@ fn drive_case_or_report_invalid<R: Threads + Wait>(
     counts: &mut ItemResultCounts,
 ) -> Result<ReportWithDriveCounts, AllocError>
     requires { shaped.now.model ≡ compiled.now }
+    ensures { AreKept (answers system.new) (answers system.old) (fails system.new) (fails system.old)
+        (reset_fails system.new) (reset_fails system.old) }
 {
     let copy = shaped.copy(alloc, compiled.typed().source())?;
     match valid(compiled, alloc, copy) {
@@ -283,6 +293,8 @@ fn drive_items_and_join_json_objects<R: Threads + Wait>(
     steps: &ProgressCounter,
 ) -> Result<Output, AllocError>
     requires { AreLawful compiled.now runs.now }
+    ensures { AreKept (answers system.new) (answers system.old) (fails system.new) (fails system.old)
+        (reset_fails system.new) (reset_fails system.old) }
 {
     let mut text = Vec::new(alloc);
     let mut status = Status::Accepted;
@@ -307,20 +319,22 @@ fn drive_items_and_join_json_objects<R: Threads + Wait>(
     Ok(Output { text, status })
 }
 
-/// The object of an item that is refused.
-fn output_of_refused_run_json_object(
-    alloc: Global,
-    fault: &RunFault,
-) -> Result<Output, AllocError> {
+/// The object of an item that refuses the input.
+fn refused_run_object_answer(alloc: Global, fault: &RunFault) -> Result<Answer, AllocError>
+    ensures { IfOk result (Answers Unsaid) }
+{
     let fields = refused_item_fields(alloc, fault.run, fault.kind, fault.command)?;
-    Ok(Output {
+    Ok(Answer {
         text: json_object_line(alloc, fields.as_slice())?,
         status: Status::Refused,
+        refuses: true,
     })
 }
 
-/// The objects of the items after the model, or that of the first refusal.
-fn read_and_drive_items_for_json<R: Threads + Wait>(
+/// The objects of the items after the model, or that of the first refusal. An item has its verdict, as `pst judge` writes
+/// it, and its run as a tree; or why its case is not valid; or that it was lost, and why. With `repeats` it also has the
+/// number of drives and of those that failed.
+pub(crate) fn run_object_answer<R: Threads + Wait>(
     rt: &R,
     alloc: Global,
     input: &[u8],
@@ -328,48 +342,34 @@ fn read_and_drive_items_for_json<R: Threads + Wait>(
     repeats: Option<u32>,
     counts: &mut ItemResultCounts,
     steps: &ProgressCounter,
-) -> Result<Output, AllocError> {
+) -> Result<Answer, AllocError>
+    ensures output { IfOk result (Answers Unsaid) }
+    ensures kept { AreKept (answers system.new) (answers system.old) (fails system.new) (fails system.old)
+        (reset_fails system.new) (reset_fails system.old) }
+{
     let file = match compile_model_of_input(alloc, input)? {
         Ok(file) => file,
-        Err(refusal) => return output_of_refusal_json_object(alloc, &refusal),
+        Err(refusal) => return refusal_object_answer(alloc, &refusal),
     };
     let items = trees_after_model(file.trees.as_slice());
-    match read_runs_of_trees(alloc, file.compiled.typed(), items)? {
-        Ok(runs) => drive_items_and_join_json_objects(
-            rt,
-            alloc,
-            &file.compiled,
-            system,
-            runs.as_slice(),
-            repeats,
-            counts,
-            steps,
-        ),
-        Err(fault) => output_of_refused_run_json_object(alloc, &fault),
-    }
-}
-
-/// Drives the case of each item as `run_text` does, or with `repeats` as `drive_input_items_repeatedly_and_report` does, and writes an object for each, on
-/// a line: its verdict, as `judge_with_json_output` writes it, and its run as a tree; or why its case is not valid; or that it was lost, and
-/// why. With `repeats` the object also has the number of drives and of those that failed. A refusal is one object. The status
-/// and the counts are those of these functions; `steps` counts the items that are driven. If an allocation fails, writes the object of that alone.
-pub fn run_with_json_output<W: Sink, R: Threads + Wait>(
-    rt: &R,
-    alloc: Global,
-    input: &[u8],
-    system: &mut BoxedSystem,
-    repeats: Option<u32>,
-    counts: &mut ItemResultCounts,
-    steps: &ProgressCounter,
-    sink: &mut W,
-) -> Status
-    requires { W.broken sink.old ≡ false }
-{
-    match read_and_drive_items_for_json(rt, alloc, input, system, repeats, counts, steps) {
-        Ok(output) => write_with_status_or_lost(output.text.as_slice(), output.status, sink),
-        Err(AllocError) => {
-            *counts = ItemResultCounts::new();
-            write_with_status_or_lost(MEMORY_OBJECT, Status::Lost, sink)
-        }
-    }
+    let runs = match read_runs_of_trees(alloc, file.compiled.typed(), items)? {
+        Ok(runs) => runs,
+        Err(fault) => return refused_run_object_answer(alloc, &fault),
+    };
+    let runs = runs.as_slice();
+    let Output { text, status } = drive_items_and_join_json_objects(
+        rt,
+        alloc,
+        &file.compiled,
+        system,
+        runs,
+        repeats,
+        counts,
+        steps,
+    )?;
+    Ok(Answer {
+        text,
+        status,
+        refuses: false,
+    })
 }

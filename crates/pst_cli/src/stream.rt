@@ -1,13 +1,16 @@
 //! `pst judge --stream`, and the refused lines of a stream, for messages on them.
 ghost use Rattle.std.specs.Prelude.{◌≡◌, ◌+◌, ◌++◌, ℕ, List, Some, false, length, IfOk, MatchResult, OnOk, string_bytes};
-ghost use Rattle.pst_cli.specs.Sending.{Prints};
+ghost use Rattle.pst_cli.specs.Answering.{Delivers, Reaches, Stands};
+ghost use Rattle.pst_cli.specs.Sending.{SendsOne, memory_line};
 ghost use Rattle.pst_cli.specs.Streaming.{EndsBlock, EndsStream, cut_of};
 ghost use Rattle.pst_cli.specs.StreamOutput.{IsStreamOutput};
+ghost use Rattle.pst_sexpr.specs.declared.form.Form.{Form};
+ghost use Rattle.pst_typing.specs.Loading.{Holds};
 
+use crate::answer::{Destinations, MEMORY_LINE, Status, deliver, refusal_answer, send_text};
 use crate::counts::ItemResultCounts;
 use crate::input::{compile_model_of_input, prove_compiled_models_are_sync};
 use crate::keep::{numbered_item_result_lines, worst_status_after_item_results};
-use crate::output::{Status, refusal_output, write_with_status_or_lost};
 use pst_compile::Compiled;
 use pst_rejudge::{ItemResult, ProgressCounter, StreamFault, read_once_and_judge_ended_lines};
 use pst_sexpr::{Sink, WriteFailed, put_all};
@@ -137,20 +140,11 @@ fn judge_stream_and_write_lines<I: Read, W: Sink, R: Threads + Sync, L: RefusedL
     Err(Cut::NoMemory)
 }
 
-/// Judges the items of a reader, one on each line, over the model at the start of the input. For each line, from 1,
-/// writes `NUMBER VERDICT`, or `refused run NUMBER command C KIND`. Refuses a line as `BadForm` if it spells no item or
-/// more than one, or is longer than a file may be. Judges all lines that end within one read of the reader, several at
-/// once, and writes their verdicts before the next read; keeps no more of the reader in memory. `refused` then gets the
-/// refused lines. Ignores the items after the model in the input.
-///
-/// The status is the worst of all lines, as in `judge_text_keep_going`. If the model is refused, writes its refusal
-/// alone. If the reader fails, writes `refused file` after the lines so far, with the status `Refused`. If an
-/// allocation fails, writes `refused memory` after them, with the status `Lost`. The status is also `Lost` if the
-/// writer fails.
-pub fn judge_stream<I: Read, W: Sink, R: Threads + Sync, L: RefusedLineReceiver>(
+/// Writes the lines of the items of a reader, and after them why they end before the reader does, if they do.
+fn write_stream<I: Read, W: Sink, R: Threads + Sync, L: RefusedLineReceiver>(
     rt: &R,
     alloc: Global,
-    input: &[u8],
+    compiled: &Compiled,
     reader: &mut I,
     counts: &mut ItemResultCounts,
     steps: &ProgressCounter,
@@ -158,45 +152,59 @@ pub fn judge_stream<I: Read, W: Sink, R: Threads + Sync, L: RefusedLineReceiver>
     sink: &mut W,
 ) -> Status
     requires { W.broken sink.old ≡ false }
-    ensures { (bytes : List ℕ) → I.remaining reader.old ≡ Some bytes → Prints (IsStreamOutput input.now bytes)
-        (W.taken sink.old) (W.taken sink.new) (W.broken sink.new) result }
+    ensures { (input bytes : List ℕ) (trees : List Form) → Holds input compiled.now trees → I.remaining reader.old ≡ Some bytes
+        → SendsOne (IsStreamOutput input bytes) (W.taken sink.old) (W.taken sink.new) (W.broken sink.new) result }
 {
-    let file = match compile_model_of_input(alloc, input) {
-        Ok(Ok(file)) => file,
-        Ok(Err(refusal)) => {
-            return match refusal_output(alloc, &refusal) {
-                Ok(output) => write_with_status_or_lost(
-                    output.text.as_slice(),
-                    output.status,
-                    sink,
-                ),
-                Err(AllocError) => write_with_status_or_lost(
-                    b"refused memory\n",
-                    Status::Lost,
-                    sink,
-                ),
-            };
-        }
-        Err(AllocError) => return write_with_status_or_lost(
-            b"refused memory\n",
-            Status::Lost,
-            sink,
-        ),
-    };
-    match judge_stream_and_write_lines(
-        rt,
-        alloc,
-        &file.compiled,
-        reader,
-        counts,
-        steps,
-        refused,
-        sink,
-    ) {
+    match judge_stream_and_write_lines(rt, alloc, compiled, reader, counts, steps, refused, sink) {
         Ok(status) => status,
-        Err(Cut::Unread) => write_with_status_or_lost(b"refused file\n", Status::Refused, sink),
-        Err(Cut::NoMemory) => write_with_status_or_lost(b"refused memory\n", Status::Lost, sink),
+        Err(Cut::Unread) => send_text(b"refused file\n", Status::Refused, sink),
+        Err(Cut::NoMemory) => send_text(MEMORY_LINE, Status::Lost, sink),
         Err(Cut::Unwritten) => Status::Lost,
+    }
+}
+
+/// Judges the items of a reader, one on each line, over the model at the start of the input. For each line, from 1,
+/// writes `NUMBER VERDICT`, or `refused run NUMBER command C KIND`. Refuses a line as `BadForm` if it spells no item or
+/// more than one, or is longer than a file may be. Judges all lines that end within one read of the reader, several at
+/// once, and writes their verdicts before the next read; keeps no more of the reader in memory. `refused` then gets the
+/// refused lines. Ignores the items after the model in the input. Writes to the file if there is one, else to `out`.
+///
+/// The status is the worst of all lines, as in `judge_text_keep_going`. If the model is refused, writes its refusal
+/// alone to `out`. If the reader fails, writes `refused file` after the lines so far, with the status `Refused`. If an
+/// allocation fails, writes `refused memory` after them, with the status `Lost`; alone and to `out` if it fails before
+/// the reader is read. The status is also `Lost` if the writer fails.
+pub fn judge_stream<I: Read, F: Sink, W: Sink, R: Threads + Sync, L: RefusedLineReceiver>(
+    rt: &R,
+    alloc: Global,
+    input: &[u8],
+    reader: &mut I,
+    counts: &mut ItemResultCounts,
+    steps: &ProgressCounter,
+    refused: &mut L,
+    to: &mut Destinations<F, W>,
+) -> Status
+    requires stands { Stands F.broken W.broken to.old }
+    ensures prints { (bytes : List ℕ) → I.remaining reader.old ≡ Some bytes
+        → Reaches memory_line (IsStreamOutput input.now bytes)
+        (Delivers F.taken F.broken W.taken W.broken to.old to.new result) }
+{
+    let compiled = match compile_model_of_input(alloc, input) {
+        Ok(Ok(file)) => file.compiled,
+        Ok(Err(refusal)) => return deliver(&refusal_answer(alloc, &refusal), MEMORY_LINE, to),
+        Err(AllocError) => return deliver(&Err(AllocError), MEMORY_LINE, to),
+    };
+    match &mut to.file {
+        Some(file) => write_stream(rt, alloc, &compiled, reader, counts, steps, refused, file),
+        None => write_stream(
+            rt,
+            alloc,
+            &compiled,
+            reader,
+            counts,
+            steps,
+            refused,
+            &mut to.out,
+        ),
     }
 }
 

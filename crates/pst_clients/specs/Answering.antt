@@ -24,6 +24,6 @@ IsAnswer t line (answer.Value v) = Spells t line v
 IsAnswer t line answer.Failed = says_failed line ≡ true
 IsAnswer t line answer.NoValue = (says_failed line ≡ false) × ((v : Value) → ¬ Spells t line v)
 
--- some line spells the value, at the result type of the operation that is called, if there is one
-abbrev pub Answered : List Ty → RealCall → Value → Type 0
-Answered results c v = (line : List ℕ) × Spells (slice_get results c.op) line v
+-- a line that may be given spells the value, at the result type of the operation that is called, if there is one
+abbrev pub Answered : (List ℕ → Type 0) → List Ty → RealCall → Value → Type 0
+Answered may_give results c v = (line : List ℕ) × may_give line × Spells (slice_get results c.op) line v

@@ -1,2 +1,4 @@
 pub mod Answering
 pub mod Calling
+pub mod Lines
+pub mod Losing

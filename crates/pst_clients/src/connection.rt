@@ -1,33 +1,19 @@
 //! One client, at the other end of two pipes: what it is sent, what it answers and what else it prints.
-ghost use Rattle.std.specs.Prelude.{◌≡◌, ◌≢◌, ◌≤◌, [], ◌∷◌, ◌++◌, All, IfOk, OnOk, Err, length, string_bytes};
+ghost use Rattle.std.specs.Prelude.{◌≡◌, [], ◌∷◌, ◌++◌, true, IfErr, IfOk, IsTrue, OnOk, string_bytes};
 ghost use Rattle.std.specs.Io.KnownBytes.{Appends, Consumes};
+ghost use Rattle.pst_clients.specs.Losing.{IsExtra, IsGone, IsLineLoss, fault_of, is_gone};
 
+use crate::marks::{LAST_LINE, LineEnd, MARK, MarkedLine};
+use crate::source::{LineSink, LineSource};
+use crate::states::{ClientState, LostAnswer};
+use pst_system::CallFault;
 use std::alloc::{AllocError, Global};
 use std::fs::OpenOptions;
-use std::io::{self, BufReader, Read, Write};
+use std::io::Write;
 use std::rt::Files;
-
-/// The maximum number of bytes of a line of a client, its end not counted.
-pub const MAX_LINE: usize = 1_048_576;
 
 /// The line that makes the launcher restart a client.
 const REVIVE: &str = "[\"revive\"]\n";
-
-/// The byte before what the launcher or this program says at the end of a line of a client, which the client may have
-/// begun. No JSON contains this byte.
-const MARK: u8 = 0x18;
-
-/// What the line says that ends what a client has printed so far.
-const LAST: &[u8] = b"pst";
-
-/// The line that this program writes to the pipe of the answers, to read up to it, if the launcher does not.
-const LAST_LINE: &[u8] = b"\x18pst\n";
-
-/// What the line says by which the launcher ends a wait that has taken too long.
-const GIVEN_UP: &[u8] = b"pst gives up";
-
-/// What the line says by which the launcher reports that a client runs again.
-const STARTED: &[u8] = b"started";
 
 /// The word by which the launcher writes the line that ends what a client has printed so far. A wait begins.
 const MARK_WORD: &[u8] = b"m\n";
@@ -41,43 +27,9 @@ const DONE_WORD: &[u8] = b"d\n";
 /// After how many resets with an unusual answer it is worth while to wait for another line.
 const MOST_WAITS: u32 = 3;
 
-/// Why a line was not answered.
-#[derive(Debug, PartialEq, Eq, Drop)]
-pub enum LostAnswer {
-    /// There is no client to ask.
-    NoClient,
-    /// The client has ended. The launcher says how.
-    Ended(String),
-    /// A pipe is closed, or the client ended before.
-    Closed,
-    /// The line is longer than `MAX_LINE`. No other is read.
-    TooLong,
-    /// The line is no UTF-8.
-    NoText,
-    /// The client printed more than one line. This is the first, which may answer the line or not.
-    MoreLines(String),
-    /// The line has the byte 0x18, but does not say that the client has ended.
-    Marked,
-    /// The launcher has ended the wait, which took too long. The client gets no other line.
-    TooLate,
-    /// Out of memory.
-    NoMemory,
-}
-
-/// What is known of a client.
-#[derive(Clone, Copy, Debug, PartialEq, Eq, Drop)]
-pub enum ClientState {
-    /// It runs, as far as is known.
-    Open,
-    /// It has ended, and may be started again.
-    Ended,
-    /// A pipe is closed.
-    Closed,
-}
-
 /// A client that reads lines and answers each with a line.
 #[derive(Drop)]
-pub struct Connection<I: Read, O: Write> {
+pub struct Connection<I: LineSource, O: LineSink> {
     alloc: Global,
     answers: I,
     calls: O,
@@ -94,102 +46,11 @@ pub struct Connection<I: Read, O: Write> {
     reset_answer: Option<String>,
     /// After how many more resets with an unusual answer it is worth while to wait for another line.
     waits: u32,
+    ghost gone: { is_gone state ≡ true → ∥ IsGone I.may_give I.may_fail O.may_break ∥₁ },
+    ghost extra: { IsTrue is_astray → ∥ IsExtra I.may_give I.may_run_ahead ∥₁ },
 }
 
-/// What the end of a line says, after the last byte 0x18 in it.
-#[derive(Clone, Copy, Drop)]
-enum LineEnd<'a> {
-    /// Nothing: there is no such byte, and the client wrote the whole line.
-    Nothing,
-    /// What the client has printed so far ends here.
-    Last,
-    /// The wait has taken too long.
-    GivenUp,
-    /// The client runs again.
-    Started,
-    /// The client has ended, and how. A client that writes this byte seems to end too.
-    Ended(&'a [u8]),
-}
-
-/// A line of a client before the last byte 0x18 in it, and what it says after this byte.
-#[derive(Clone, Copy, Drop)]
-struct MarkedLine<'a> {
-    text: &'a [u8],
-    end: LineEnd<'a>,
-}
-
-impl<'a> MarkedLine<'a> {
-    /// The parts of a line.
-    fn of(line: &'a [u8]) -> MarkedLine<'a> {
-        let mut text = line;
-        for _ in 0..line.len() {
-            let Some((last, before)) = text.split_last() else {
-                break;
-            };
-            text = before;
-            if *last == MARK {
-                let (_, said) = line.split_at(before.len().saturating_add(1).min(line.len()));
-                return MarkedLine {
-                    text,
-                    end: LineEnd::saying(said),
-                };
-            }
-        }
-        MarkedLine {
-            text: line,
-            end: LineEnd::Nothing,
-        }
-    }
-}
-
-impl<'a> LineEnd<'a> {
-    /// What the end of a line says by the bytes after the last byte 0x18.
-    fn saying(said: &'a [u8]) -> LineEnd<'a> {
-        if said == LAST {
-            LineEnd::Last
-        } else if said == GIVEN_UP {
-            LineEnd::GivenUp
-        } else if said == STARTED {
-            LineEnd::Started
-        } else {
-            LineEnd::Ended(said)
-        }
-    }
-}
-
-/// The next byte.
-fn read_byte_of_client<I: Read>(reader: &mut I) -> io::Result<u8>
-    ensures { IfOk result (λ byte. Consumes (I.remaining reader.old) (I.remaining reader.new)
-        (byte ∷ [])) }
-{
-    let mut byte = [0u8];
-    reader.read_exact(&mut byte)?;
-    Ok(byte[0])
-}
-
-/// The next line without its end, if it has at most `MAX_LINE` bytes.
-fn read_line_of_client<I: Read>(alloc: Global, reader: &mut I) -> Result<Vec<u8>, LostAnswer>
-    ensures consumed { IfOk result (λ line. Consumes (I.remaining reader.old)
-        (I.remaining reader.new) (line.items ++ 10 ∷ [])) }
-    ensures one { IfOk result (λ line. All (λ byte. byte ≢ 10) line.items) }
-    ensures bound { IfOk result (λ line. length line.items ≤ 1048576) }
-{
-    let mut line = Vec::new(alloc);
-    for _ in 0..=MAX_LINE {
-        let Ok(byte) = read_byte_of_client(reader) else {
-            return Err(LostAnswer::Closed);
-        };
-        if byte == b'\n' {
-            return Ok(line);
-        }
-        if line.push(byte).is_err() {
-            return Err(LostAnswer::NoMemory);
-        }
-    }
-    Err(LostAnswer::TooLong)
-}
-
-impl<I: Read + ReadAhead, O: Write> Connection<I, O> {
+impl<I: LineSource, O: LineSink> Connection<I, O> {
     /// A client whose answers come from `answers`, and which reads its calls from `calls`.
     pub fn new(alloc: Global, answers: I, calls: O) -> Connection<I, O> {
         Connection {
@@ -216,14 +77,14 @@ impl<I: Read + ReadAhead, O: Write> Connection<I, O> {
     /// Tells the launcher that a wait begins, which may only take a limited time.
     pub fn begin_limited_wait(&mut self) {
         if let Some(pipe) = &mut self.waits_pipe {
-            let _ = pipe.write_all(WAIT_WORD);
+            let _ = pipe.send_line(WAIT_WORD);
         }
     }
 
     /// Tells the launcher that a wait is over.
     pub fn end_limited_wait(&mut self) {
         if let Some(pipe) = &mut self.waits_pipe {
-            let _ = pipe.write_all(DONE_WORD);
+            let _ = pipe.send_line(DONE_WORD);
         }
     }
 
@@ -232,16 +93,36 @@ impl<I: Read + ReadAhead, O: Write> Connection<I, O> {
         self.state
     }
 
+    /// Keeps in mind that the client gives no answer any more.
+    fn note_gone(&mut self, state: ClientState)
+        requires { ∥ IsGone I.may_give I.may_fail O.may_break ∥₁ }
+        ensures answers { self.new.answers ≡ self.old.answers }
+        ensures calls { self.new.calls ≡ self.old.calls }
+    {
+        self.state = state;
+    }
+
+    /// Keeps in mind that the client printed a line too many.
+    fn note_extra_line(&mut self)
+        requires { ∥ IsExtra I.may_give I.may_run_ahead ∥₁ }
+        ensures answers { self.new.answers ≡ self.old.answers }
+        ensures calls { self.new.calls ≡ self.old.calls }
+    {
+        self.is_astray = true;
+    }
+
     /// Sends a line with its end.
     fn send_client_line(&mut self, line: &[u8]) -> Result<(), LostAnswer>
         ensures sent { OnOk result (Appends (O.contents self.old.calls)
             (O.contents self.new.calls) line.now) }
         ensures same { self.new.answers ≡ self.old.answers }
+        ensures lost { IfErr result (λ lost. IsLineLoss I.may_give I.may_fail I.may_run_ahead O.may_break
+            (fault_of lost)) }
     {
-        match self.calls.write_all(line) {
+        match self.calls.send_line(line) {
             Ok(()) => Ok(()),
             Err(_) => {
-                self.state = ClientState::Closed;
+                self.note_gone(ClientState::Closed);
                 Err(LostAnswer::Closed)
             }
         }
@@ -252,35 +133,42 @@ impl<I: Read + ReadAhead, O: Write> Connection<I, O> {
         ensures received { IfOk result (λ line. Consumes (I.remaining self.old.answers)
             (I.remaining self.new.answers) (line.items ++ 10 ∷ [])) }
         ensures same { self.new.calls ≡ self.old.calls }
+        ensures given { IfOk result (λ line. I.may_give line.items) }
+        ensures lost { IfErr result (λ lost. IsLineLoss I.may_give I.may_fail I.may_run_ahead O.may_break
+            (fault_of lost)) }
     {
-        match read_line_of_client(self.alloc, &mut self.answers) {
+        match self.answers.next_line(self.alloc) {
             Ok(line) => Ok(line),
-            Err(lost) => {
-                if lost != LostAnswer::NoMemory {
-                    self.state = ClientState::Closed;
+            Err(lost) => match lost.fault() {
+                CallFault::NoMemory => Err(lost),
+                CallFault::Refused => {
+                    self.note_gone(ClientState::Closed);
+                    Err(lost)
                 }
-                Err(lost)
-            }
+            },
         }
     }
 
     /// Keeps in mind what the end of a line says. Returns why such a line is no answer, if it says something.
-    fn note_end_of_line(&mut self, end: LineEnd<'_>) -> Result<(), LostAnswer>
+    fn note_end_of_line(&mut self, line: &[u8]) -> Result<(), LostAnswer>
+        requires { I.may_give line.now }
         ensures answers { self.new.answers ≡ self.old.answers }
         ensures calls { self.new.calls ≡ self.old.calls }
+        ensures lost { IfErr result (λ lost. IsLineLoss I.may_give I.may_fail I.may_run_ahead O.may_break
+            (fault_of lost)) }
     {
-        match end {
-            LineEnd::Nothing => Ok(()),
-            LineEnd::Last | LineEnd::Started => {
-                self.is_astray = true;
+        match MarkedLine::of(line).end {
+            None => Ok(()),
+            Some(LineEnd::Last | LineEnd::Started) => {
+                self.note_extra_line();
                 Err(LostAnswer::Marked)
             }
-            LineEnd::GivenUp => {
-                self.state = ClientState::Closed;
+            Some(LineEnd::GivenUp) => {
+                self.note_gone(ClientState::Closed);
                 Err(LostAnswer::TooLate)
             }
-            LineEnd::Ended(how) => {
-                self.state = ClientState::Ended;
+            Some(LineEnd::Ended(how)) => {
+                self.note_gone(ClientState::Ended);
                 match String::from_utf8_lossy(self.alloc, how) {
                     Ok(how) => Err(LostAnswer::Ended(how)),
                     Err(AllocError) => Err(LostAnswer::NoMemory),
@@ -294,9 +182,12 @@ impl<I: Read + ReadAhead, O: Write> Connection<I, O> {
         ensures received { IfOk result (λ text. Consumes (I.remaining self.old.answers)
             (I.remaining self.new.answers) (string_bytes text ++ 10 ∷ [])) }
         ensures same { self.new.calls ≡ self.old.calls }
+        ensures given { IfOk result (λ text. I.may_give (string_bytes text)) }
+        ensures lost { IfErr result (λ lost. IsLineLoss I.may_give I.may_fail I.may_run_ahead O.may_break
+            (fault_of lost)) }
     {
         let line = self.receive_line()?;
-        self.note_end_of_line(MarkedLine::of(line.as_slice()).end)?;
+        self.note_end_of_line(line.as_slice())?;
         match String::from_utf8(line) {
             Ok(text) => Ok(text),
             Err(_) => Err(LostAnswer::NoText),
@@ -305,7 +196,9 @@ impl<I: Read + ReadAhead, O: Write> Connection<I, O> {
 
     /// Whether bytes that the client printed have been read ahead. False if its answers come from no pipe with a name.
     /// What the launcher says of the client does not count.
-    fn has_buffered_client_output(&self) -> bool {
+    fn has_buffered_client_output(&self) -> bool
+        ensures { IsTrue result → I.may_run_ahead }
+    {
         match self.answers.next_byte_read_ahead() {
             Some(byte) => self.pipe.is_some() && byte != MARK,
             None => false,
@@ -320,15 +213,20 @@ impl<I: Read + ReadAhead, O: Write> Connection<I, O> {
             (O.contents self.new.calls) line.now) }
         ensures received { IfOk result (λ text. Consumes (I.remaining self.old.answers)
             (I.remaining self.new.answers) (string_bytes text ++ 10 ∷ [])) }
+        ensures given { IfOk result (λ text. I.may_give (string_bytes text)) }
+        ensures lost { IfErr result (λ lost. IsLineLoss I.may_give I.may_fail I.may_run_ahead O.may_break
+            (fault_of lost)) }
     {
-        if self.state != ClientState::Open {
-            return Err(LostAnswer::Closed);
+        match self.state {
+            ClientState::Open => {}
+            ClientState::Unread => return Err(LostAnswer::NoMemory),
+            ClientState::Ended | ClientState::Closed => return Err(LostAnswer::Closed),
         }
         self.is_asked = true;
         self.send_client_line(line)?;
         let text = self.receive_answer()?;
         if self.has_buffered_client_output() {
-            self.is_astray = true;
+            self.note_extra_line();
             return Err(LostAnswer::MoreLines(text));
         }
         Ok(text)
@@ -340,7 +238,7 @@ impl<I: Read + ReadAhead, O: Write> Connection<I, O> {
     /// the answers is full.
     fn write_end_mark_after_client_output<R: Files>(&mut self, files: &R) -> bool {
         if let Some(pipe) = &mut self.waits_pipe {
-            return pipe.write_all(MARK_WORD).is_ok();
+            return pipe.send_line(MARK_WORD).is_ok();
         }
         let Some(name) = &self.pipe else {
             return false;
@@ -352,23 +250,26 @@ impl<I: Read + ReadAhead, O: Write> Connection<I, O> {
     }
 
     /// Reads the lines up to the end mark, or up to the line that ends the wait for it. Returns the first that the client
-    /// wrote or began, if there is one.
+    /// wrote or began, if there is one. After a line was sent, that is a line too many.
     fn read_to_end_mark_line(&mut self) -> Result<Option<String>, LostAnswer> {
         let mut first = None;
         for _ in 0..u64::MAX {
             let line = self.receive_line()?;
             let MarkedLine { text, end } = MarkedLine::of(line.as_slice());
-            if first.is_none() && (!text.is_empty() || matches!(end, LineEnd::Nothing)) {
+            if first.is_none() && (!text.is_empty() || end.is_none()) {
                 first = Some(first_text(self.alloc, text)?);
+                if self.is_asked {
+                    self.note_extra_line();
+                }
             }
             match end {
-                LineEnd::Last => break,
-                LineEnd::GivenUp => {
-                    self.state = ClientState::Closed;
+                Some(LineEnd::Last) => break,
+                Some(LineEnd::GivenUp) => {
+                    self.note_gone(ClientState::Closed);
                     break;
                 }
-                LineEnd::Ended(_) => self.state = ClientState::Ended,
-                LineEnd::Nothing | LineEnd::Started => {}
+                Some(LineEnd::Ended(_)) => self.note_gone(ClientState::Ended),
+                None | Some(LineEnd::Started) => {}
             }
         }
         Ok(first)
@@ -382,19 +283,22 @@ impl<I: Read + ReadAhead, O: Write> Connection<I, O> {
         }
         let read = self.read_to_end_mark_line();
         self.end_limited_wait();
-        let Ok(first) = read else {
-            self.state = ClientState::Closed; // the last line may not be read
-            return None;
-        };
-        if first.is_some() && self.is_asked {
-            self.is_astray = true;
+        match read {
+            Ok(first) => first,
+            Err(lost) => {
+                if lost == LostAnswer::NoMemory {
+                    self.state = ClientState::Unread;
+                }
+                None
+            }
         }
-        first
     }
 
     /// Whether the client printed a line too many since it was reset, as far as is known. Then each of its
     /// answers may be that of another line. It is forgotten.
-    pub fn take_extra_line_flag(&mut self) -> bool {
+    pub fn take_extra_line_flag(&mut self) -> bool
+        ensures { IsTrue result → ∥ IsExtra I.may_give I.may_run_ahead ∥₁ }
+    {
         let is_astray = self.is_astray;
         self.is_astray = false;
         self.is_asked = false;
@@ -428,9 +332,9 @@ impl<I: Read + ReadAhead, O: Write> Connection<I, O> {
             }
             if let Ok(line) = self.receive_line() {
                 match MarkedLine::of(line.as_slice()).end {
-                    LineEnd::Ended(_) => self.state = ClientState::Ended,
-                    LineEnd::GivenUp => self.state = ClientState::Closed,
-                    LineEnd::Nothing | LineEnd::Last | LineEnd::Started => {}
+                    Some(LineEnd::Ended(_)) => self.note_gone(ClientState::Ended),
+                    Some(LineEnd::GivenUp) => self.note_gone(ClientState::Closed),
+                    None | Some(LineEnd::Last | LineEnd::Started) => {}
                 }
             }
         }
@@ -452,16 +356,18 @@ impl<I: Read + ReadAhead, O: Write> Connection<I, O> {
             }
             if let Ok(line) = self.receive_line() {
                 match MarkedLine::of(line.as_slice()).end {
-                    LineEnd::Started | LineEnd::Ended(_) => self.state = ClientState::Open,
-                    LineEnd::GivenUp => self.state = ClientState::Closed,
-                    LineEnd::Nothing | LineEnd::Last => {}
+                    Some(LineEnd::Started | LineEnd::Ended(_)) => {
+                        self.state = ClientState::Open;
+                    }
+                    Some(LineEnd::GivenUp) => self.note_gone(ClientState::Closed),
+                    None | Some(LineEnd::Last) => {}
                 }
             }
         }
     }
 }
 
-impl<I: Read, O: Write + Drop> Connection<I, O> {
+impl<I: LineSource, O: LineSink + Drop> Connection<I, O> {
     /// The same client, with a pipe that tells its launcher of waits. The launcher then marks the end of what the client has
     /// printed, and ends waits that take too long.
     pub fn with_waits_pipe(mut self, pipe: O) -> Connection<I, O> {
@@ -475,24 +381,5 @@ fn first_text(alloc: Global, line: &[u8]) -> Result<String, LostAnswer> {
     match String::from_utf8_lossy(alloc, line) {
         Ok(text) => Ok(text),
         Err(AllocError) => Err(LostAnswer::NoMemory),
-    }
-}
-
-/// A reader that may read more of a pipe than is wanted of it.
-pub trait ReadAhead {
-    /// The next byte, if it is read from the pipe already.
-    fn next_byte_read_ahead(&self) -> Option<u8>;
-}
-
-impl<R: Read> ReadAhead for BufReader<R> {
-    fn next_byte_read_ahead(&self) -> Option<u8> {
-        self.buffer().first().copied()
-    }
-}
-
-/// Known bytes are read one at a time, as they are wanted.
-impl ReadAhead for &[u8] {
-    fn next_byte_read_ahead(&self) -> Option<u8> {
-        None
     }
 }

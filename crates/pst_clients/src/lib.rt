@@ -6,16 +6,22 @@
 
 mod clients;
 mod connection;
+mod marks;
 mod notes;
 mod opening;
 mod protocol;
+mod resetting;
+mod source;
+mod states;
 mod waits;
 
 pub use clients::Clients;
-pub use connection::{ClientState, Connection, LostAnswer, MAX_LINE, ReadAhead};
+pub use connection::Connection;
 pub use notes::{MOST_NOTES, Notes};
 pub use opening::{ClientFolder, open_clients};
 pub use protocol::{
     ClientAnswer, client_answer_of_line, client_call_line, result_types_of_operations,
 };
+pub use source::{CallPipe, LineSink, LineSource, MAX_LINE};
+pub use states::{ClientState, LostAnswer};
 pub use waits::ClientWaits;

@@ -23,10 +23,9 @@ pub(crate) enum NoteKind {
     Stray,
 }
 
-/// All kinds, in the order of their notes.
-const KINDS: [NoteKind; 7] = [
+/// All kinds, in the order of their notes. Stray lines are kept with [`NoteKind::MoreLines`].
+const KINDS: [NoteKind; 6] = [
     NoteKind::MoreLines,
-    NoteKind::Stray,
     NoteKind::NotAsked,
     NoteKind::NotAnswered,
     NoteKind::Failed,
@@ -47,12 +46,19 @@ impl NoteKind {
             NoteKind::Stray => "was followed by a line too many:",
         }
     }
+
+    /// Whether a note says of a client that it prints too much. A second note on the same operation says nothing new,
+    /// whatever the line.
+    fn is_of_lines_too_many(self) -> bool {
+        matches!(self, NoteKind::MoreLines | NoteKind::Stray)
+    }
 }
 
 /// A note, as it is printed.
 #[derive(Drop)]
 struct Note {
-    /// The operation and the answer. Other notes of the same kind on the same topic say nothing new.
+    /// The operation, and the answer unless it is a line too many. Other notes of the same kind on the same topic say
+    /// nothing new.
     topic: String,
     text: String,
 }
@@ -89,8 +95,7 @@ pub struct Notes {
     failed: KeptNotes,
     no_value: KeptNotes,
     misfit: KeptNotes,
-    more_lines: KeptNotes,
-    stray: KeptNotes,
+    lines_too_many: KeptNotes,
     waits: ClientWaits,
     /// How many resets failed since the last one that did not.
     failed_resets: AtomicU64,
@@ -197,8 +202,7 @@ impl Notes {
             failed: KeptNotes::new(alloc)?,
             no_value: KeptNotes::new(alloc)?,
             misfit: KeptNotes::new(alloc)?,
-            more_lines: KeptNotes::new(alloc)?,
-            stray: KeptNotes::new(alloc)?,
+            lines_too_many: KeptNotes::new(alloc)?,
             waits: ClientWaits::new(alloc)?,
             failed_resets: AtomicU64::new(0),
         })
@@ -231,8 +235,7 @@ impl Notes {
             NoteKind::Failed => &self.failed,
             NoteKind::NoValue => &self.no_value,
             NoteKind::Misfit => &self.misfit,
-            NoteKind::MoreLines => &self.more_lines,
-            NoteKind::Stray => &self.stray,
+            NoteKind::MoreLines | NoteKind::Stray => &self.lines_too_many,
         }
     }
 
@@ -250,8 +253,13 @@ impl Notes {
         let worker = client.worker.saturating_add(1);
         let branch = client.branch.saturating_add(1);
         let (what, hint) = (wrong.kind.phrase_about_line(), wrong.hint);
+        let topic = if wrong.kind.is_of_lines_too_many() {
+            String::from_str(self.alloc, operation)?
+        } else {
+            format!(in self.alloc; "{operation} {answer}")?
+        };
         Ok(Note {
-            topic: format!(in self.alloc; "{operation} {answer}")?,
+            topic,
             text: format!(in self.alloc;
                 "client {worker}-{branch}: {line} {what} {answer}{hint}\n"
             )?,

@@ -3,6 +3,7 @@
 use crate::clients::Clients;
 use crate::connection::Connection;
 use crate::notes::Notes;
+use crate::source::CallPipe;
 use pst_value::{Items, Ty};
 use std::alloc::Global;
 use std::fs::OpenOptions;
@@ -44,13 +45,14 @@ fn open_client<R: Files + AllocGlobal>(
     folder: &str,
     worker: u64,
     branch: u32,
-) -> io::Result<Connection<BufReader<R::File>, R::File>> {
+) -> io::Result<Connection<BufReader<R::File>, CallPipe<R::File>>> {
     let alloc = rt.alloc();
     let calls = format!(in alloc; "{folder}/{worker}-{branch}.calls")?;
     let name = format!(in alloc; "{folder}/{worker}-{branch}.answers")?;
     let calls = OpenOptions::new().write(true).open(rt, calls.as_str())?;
     let answers = std::fs::open(rt, name.as_str())?;
-    let client = Connection::new(alloc, BufReader::new(alloc, answers)?, calls);
+    let answers = BufReader::new(alloc, answers)?;
+    let client = Connection::new(alloc, answers, CallPipe(calls));
     if !is_pipe(rt, name.as_str()) {
         return Ok(client);
     }
@@ -60,7 +62,7 @@ fn open_client<R: Files + AllocGlobal>(
         return Ok(client);
     }
     let waits = OpenOptions::new().write(true).open(rt, waits.as_str())?;
-    Ok(client.with_waits_pipe(waits))
+    Ok(client.with_waits_pipe(CallPipe(waits)))
 }
 
 /// Whether a name is that of a pipe, or of something else that is no plain file.
@@ -80,7 +82,7 @@ pub fn open_clients<H: Wait + Files + Drop, R: Files + AllocGlobal>(
     worker: u64,
     results: Items<Ty>,
     notes: Arc<Notes, Global>,
-) -> io::Result<Clients<H, BufReader<R::File>, R::File>> {
+) -> io::Result<Clients<H, BufReader<R::File>, CallPipe<R::File>>> {
     let mut clients = Clients::new(handle, rt.alloc(), worker, folder.is_shared, results, notes);
     for branch in 1..=u32::MAX {
         match open_client(rt, folder.name, worker.saturating_add(1), branch) {

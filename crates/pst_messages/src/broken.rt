@@ -100,6 +100,10 @@ fn broken_item_sentence(
     }
 }
 
+/// The note on a reply that says that the outcome of a call is unknown.
+const UNKNOWN_OUTCOME: &str =
+    "each call has one known outcome: one that may or may not have happened, as after a timeout, fits no run";
+
 /// The message on the first broken item, and how many others there are.
 fn first_broken_item_and_count_message(
     alloc: Global,
@@ -119,11 +123,15 @@ fn first_broken_item_and_count_message(
         return Ok(None);
     };
     let path = path_to_reply_or_item(alloc, tree.form(), item, broken.command as usize)?;
+    let mut notes = Vec::new(alloc);
+    if input.is_unknown_outcome_as_read(alloc, tree.form(), path.as_slice())? {
+        notes.push(String::from_str(alloc, UNKNOWN_OUTCOME)?)?;
+    }
     let notice = Notice {
         span: span_at_path_or_whole_input(input.trees.bytes, path.as_slice()),
         is_warning: false,
         what: format!(in alloc; "item {item} is broken: {sentence}")?,
-        notes: Vec::new(alloc),
+        notes,
         lines: String::new(alloc),
     };
     let mut text = input.notice_text_on_part_as_read(alloc, tree.form(), path.as_slice(), notice)?;

@@ -1,5 +1,6 @@
 //! Messages on bytes that are no file of trees.
 
+use crate::unclosed::{OverlongPart, find_overlong_part_of_model};
 use pst_sexpr::{FaultKind, MAX_BYTES, MAX_LEVELS, SexprFault};
 use pst_sources::{
     Input, Span, char_and_length_at, find_probably_unclosed_item, item_closed_before_stray_bracket,
@@ -71,7 +72,27 @@ fn with_open_item_note(
     )
 }
 
-/// The fault of a missing `)`, at the item that is probably not closed.
+/// The fault of a missing `)` at a part of a model that is probably not closed.
+fn overlong_part_fault(
+    alloc: Global,
+    input: &Input<'_>,
+    part: OverlongPart,
+) -> Result<ByteFault, AllocError> {
+    let OverlongPart {
+        head,
+        span,
+        next_head,
+        next,
+    } = part;
+    let place = input.place_with_file_unless_same(alloc, next, span.start)?;
+    let place = place.as_str();
+    let what = format_args!("a `)` is missing, probably in the `{head}` that begins here");
+    let note = format_args!("the `{next_head}` at {place} begins while this one is still open");
+    ByteFault::new(alloc, span, what)?.with_note(alloc, note)
+}
+
+/// The fault of a missing `)`, at the item that is probably not closed. If no item begins a line in it, a part of it may
+/// be open too long, as in a model on one line.
 fn missing_closing_bracket_fault(
     alloc: Global,
     input: &Input<'_>,
@@ -81,6 +102,14 @@ fn missing_closing_bracket_fault(
         let what = "a `)` is missing: this `(` is not closed";
         return ByteFault::new(alloc, one_byte_fault_span(place), what);
     };
+    if open.next.is_none() {
+        match find_overlong_part_of_model(alloc, input.bytes)? {
+            Some(part) if part.span.start >= open.item.start => {
+                return overlong_part_fault(alloc, input, part);
+            }
+            _ => {}
+        }
+    }
     let line = input.line_with_file_unless_same(alloc, place, open.item.start)?;
     let line = line.as_str();
     let what = "a `)` is missing, probably in the item that begins here";

@@ -2,7 +2,7 @@
 
 use crate::bytes::ByteFault;
 use crate::json_item::{json_item_fault, json_span_at_or_around_tree_path};
-use crate::message::{MessageScope, errors_of_input_without_json_items};
+use crate::message::{MANY_ITEMS, MessageScope, errors_of_input_without_json_items};
 use pst_json_runs::{begins_like_json_item, replace_json_lines_by_trees};
 use pst_model::{Source, Typed};
 use pst_sexpr::{Form, MAX_BYTES};
@@ -12,6 +12,15 @@ use pst_sources::{
 };
 use pst_typing::load;
 use std::alloc::{AllocError, Global};
+
+/// The texts by which clients of other tools say that the outcome of a call is unknown.
+const UNKNOWN_OUTCOMES: [&str; 5] = [
+    "\"timeout\"",
+    "\"timed out\"",
+    "\"unknown\"",
+    "\"info\"",
+    "\"pending\"",
+];
 
 /// An input of items, as it was read and with a tree in place of each JSON item.
 #[derive(Clone, Copy, Drop)]
@@ -23,6 +32,36 @@ pub struct ItemInput<'a> {
 }
 
 impl ItemInput<'_> {
+    /// The span of the part at `path` of the item `tree` in `read`, the text of the files as they were read. The path begins
+    /// with the number of the item.
+    fn span_of_part_as_read(&self, read: &[u8], tree: &Form, path: &[usize]) -> Span {
+        translate_span_to_json_text(
+            read,
+            self.trees.bytes,
+            tree,
+            path.get(1..).unwrap_or(&[]),
+            span_at_path_or_whole_input(self.trees.bytes, path),
+        )
+    }
+
+    /// Whether the part at `path` of the item `tree`, as it was read, is a text by which clients of other tools say that the
+    /// outcome of a call is unknown.
+    pub fn is_unknown_outcome_as_read(
+        &self,
+        alloc: Global,
+        tree: &Form,
+        path: &[usize],
+    ) -> Result<bool, AllocError> {
+        let text = joined_text_of_files(alloc, self.read)?;
+        let span = self.span_of_part_as_read(text.as_slice(), tree, path);
+        let part = text.as_slice().get(span.start..span.end).unwrap_or(&[]);
+        Ok(
+            UNKNOWN_OUTCOMES
+                .iter()
+                .any(|known| part == known.as_bytes()),
+        )
+    }
+
     /// The text of `notice`, a notice on the part at `path` of the item `tree`. It shows the part as it was read. The
     /// path begins with the number of the item.
     pub fn notice_text_on_part_as_read(
@@ -37,13 +76,7 @@ impl ItemInput<'_> {
             files: self.read,
             bytes: text.as_slice(),
         };
-        let span = translate_span_to_json_text(
-            read.bytes,
-            self.trees.bytes,
-            tree,
-            path.get(1..).unwrap_or(&[]),
-            span_at_path_or_whole_input(self.trees.bytes, path),
-        );
+        let span = self.span_of_part_as_read(read.bytes, tree, path);
         notice_text(alloc, &read, &Notice { span, ..notice })
     }
 }
@@ -193,13 +226,15 @@ fn too_large_as_trees_notice(
         tree: _,
     } = JsonAndTreeLineStart::first().advance_to_line_at(json, trees, MAX_BYTES);
     let first_byte = Span { start: 0, end: 1 };
-    let fault = ByteFault::new(
+    let mut fault = ByteFault::new(
         alloc,
         first_byte,
         format_args!("as trees, the items up to here have more than {MAX_BYTES} bytes"),
     )?;
-    let hint = "hint: give the items on standard input, with --stream";
-    Ok(json_fault_notice(alloc, start, fault.with_note(alloc, hint)?))
+    for hint in MANY_ITEMS {
+        fault = fault.with_note(alloc, hint)?;
+    }
+    Ok(json_fault_notice(alloc, start, fault))
 }
 
 /// The errors of an input with JSON items whose model is accepted.

@@ -17,16 +17,20 @@ mod json_fault;
 mod json_input;
 mod json_item;
 mod json_places;
+mod later_state;
 mod message;
+mod missing_keys;
 mod preconditions;
 mod scripts;
 mod spelling;
+mod unclosed;
 mod untrue_precondition;
 mod warning;
 
 pub use broken::{first_broken_item_result_and_count_message, first_broken_run_and_count_message};
 pub use faults::explanation_why_trial_has_no_case;
 pub use json_input::{ItemInput, files_with_json_as_trees, find_first_line_like_json_item};
+pub use later_state::model_beginning_after_call;
 pub use message::{
     MessageScope, has_model_at_start, input_error_messages_text, input_error_notices,
 };

@@ -6,7 +6,7 @@ use crate::json_input::{errors_of_input_with_json_items, find_first_line_like_js
 use pst_model::Typed;
 use pst_run_problems::refused_case_or_run_problem;
 use pst_runs::{RunFault, read_runs};
-use pst_sexpr::{Form, Tree, read};
+use pst_sexpr::{FaultKind, Form, SexprFault, Tree, read};
 use pst_sources::{
     Input, Notice, Notices, SourceFile, Span, deepest_span_on_path_in_tree, head_of_first_item,
     span_at_path_or_whole_input, text_of_notices_if_any, tree_at,
@@ -330,6 +330,35 @@ fn item_error_notices(
     }
 }
 
+/// The hints on items that are too large for one input.
+pub const MANY_ITEMS: [&str; 2] = [
+    "hint: `pst judge --stream MODEL < ITEMS` judges any number of items, one on each line",
+    "hint: `sed -n 7p ITEMS | pst explain MODEL -` explains the item on line 7",
+];
+
+/// The error on bytes that are no file of trees.
+fn error_notice_of_unread_bytes(
+    alloc: Global,
+    input: &Input<'_>,
+    scope: MessageScope,
+    refused: SexprFault,
+) -> Result<Notice, AllocError> {
+    let mut fault = byte_fault_of_sexpr_fault(alloc, input, refused)?;
+    if refused.kind == FaultKind::TooLarge && scope != MessageScope::Model {
+        for hint in MANY_ITEMS {
+            fault = fault.with_note(alloc, hint)?;
+        }
+    }
+    let ByteFault { span, what, notes } = fault;
+    Ok(Notice {
+        span,
+        is_warning: false,
+        what,
+        notes,
+        lines: String::new(alloc),
+    })
+}
+
 /// The errors of an input without JSON items.
 pub fn errors_of_input_without_json_items(
     alloc: Global,
@@ -339,16 +368,10 @@ pub fn errors_of_input_without_json_items(
     match load(alloc, input.bytes)? {
         Ok(file) => item_error_notices(alloc, input, &file, scope),
         Err(Refusal::Unread(refused)) => {
-            let ByteFault { span, what, notes } = byte_fault_of_sexpr_fault(alloc, input, refused)?;
-            let lines = String::new(alloc);
-            let notice = Notice {
-                span,
-                is_warning: false,
-                what,
-                notes,
-                lines,
-            };
-            Notices::one(alloc, notice)
+            Notices::one(
+                alloc,
+                error_notice_of_unread_bytes(alloc, input, scope, refused)?,
+            )
         }
         Err(refusal) => {
             let problems = problems_of_refused_model(alloc, input, &refusal)?;

@@ -2,6 +2,7 @@
 
 use clap::builder::ValueParser;
 use clap::{Arg, ArgAction, ArgMatches, Command};
+use pst_cli::OutputForm;
 use pst_trial::{MAX_BRANCHES, MAX_TRIALS};
 use std::alloc::{AllocError, Global};
 
@@ -95,6 +96,15 @@ pub fn text_or_json_format_option<'a>(alloc: Global) -> Arg<'a> {
 /// Returns whether the arguments select JSON output.
 pub fn is_json_selected(arguments: &ArgMatches<'_>) -> bool {
     arguments.get_str("format") == Some("json")
+}
+
+/// Returns the form of the output that the arguments select.
+pub fn output_form_from_arguments(arguments: &ArgMatches<'_>) -> OutputForm {
+    if is_json_selected(arguments) {
+        OutputForm::Json
+    } else {
+        OutputForm::Text
+    }
 }
 
 /// The option that judges the items after a refused one.

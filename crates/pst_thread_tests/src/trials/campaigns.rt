@@ -3,14 +3,15 @@ ghost use Rattle.std.specs.Prelude.{◌≡◌, None};
 ghost use Rattle.std.specs.Arc.{arc_value};
 
 use crate::trials::plans::plan_of_model_text;
-use pst_campaign::{EarlyStop, campaign_until, run_trials_until_none_is_left};
+use pst_campaign::{
+    EarlyStop, NoSignal, Signal, StopCondition, campaign_until, run_trials_until_none_is_left,
+};
 use pst_ledger::{Cause, Closed, Entry, Ledger};
-use pst_samples::Stuck;
+use pst_samples::{Flags, Pair, Side, Stuck};
 use pst_system::BoxedSystem;
 use pst_tests::support::{COUNTER, LimitedResets, ONE};
-use pst_trial::{Plan, Record, Settings, prove_records_are_send_and_sync, trial};
+use pst_trial::{Plan, Record, Settings, TrialOutcome, prove_records_are_send_and_sync, trial};
 use std::alloc::Global;
-use std::sync::atomic::AtomicBool;
 use std::sync::{Arc, Wait};
 use std::test::Fail;
 use std::thread::Threads;
@@ -127,10 +128,10 @@ fn trials_without_resets_are_lost(rt: HostRuntime) -> Result<(), Fail> {
 
 /// How many of twenty numbers have a record, and how many are undrawn, after a campaign with one worker on the system that
 /// answers 0: each case with a call fails there.
-fn run_campaign_counting_done_and_undrawn<R: Threads + Wait + Sync>(
+fn run_campaign_counting_done_and_undrawn<K: StopCondition + Sync, R: Threads + Wait + Sync>(
     rt: &R,
     alloc: Global,
-    ending: &EarlyStop,
+    ending: &K,
 ) -> Option<(usize, usize)> {
     let settings = Settings {
         trials: 20,
@@ -157,7 +158,7 @@ fn run_campaign_counting_done_and_undrawn<R: Threads + Wait + Sync>(
 
 #[test]
 fn a_campaign_ends_with_its_third_failure(rt: HostRuntime) -> Result<(), Fail> {
-    let ending = EarlyStop::new(Some(3), None);
+    let ending = EarlyStop::new(Some(3), NoSignal);
     assert_eq!(rt;
         run_campaign_counting_done_and_undrawn(&rt, rt.alloc(), &ending),
         Some((3, 17))
@@ -167,7 +168,7 @@ fn a_campaign_ends_with_its_third_failure(rt: HostRuntime) -> Result<(), Fail> {
 
 #[test]
 fn a_campaign_without_a_limit_runs_all_trials(rt: HostRuntime) -> Result<(), Fail> {
-    let ending = EarlyStop::new(None, None);
+    let ending = EarlyStop::new(None, NoSignal);
     assert_eq!(rt;
         run_campaign_counting_done_and_undrawn(&rt, rt.alloc(), &ending),
         Some((20, 0))
@@ -175,20 +176,78 @@ fn a_campaign_without_a_limit_runs_all_trials(rt: HostRuntime) -> Result<(), Fai
     Ok(())
 }
 
-/// The counts of a campaign that is interrupted before its first trial.
-fn run_interrupted_campaign_counting_trials<R: Threads + Wait + Sync>(
-    rt: &R,
-    alloc: Global,
-) -> Option<(usize, usize)> {
-    let interrupted = Arc::new(alloc, AtomicBool::new(true)).ok()?;
-    run_campaign_counting_done_and_undrawn(rt, alloc, &EarlyStop::new(None, Some(interrupted)))
+/// A signal that is given before the first trial.
+#[derive(Clone, Copy, Drop)]
+struct GivenSignal;
+
+impl Signal for GivenSignal {
+    ghost use Rattle.std.specs.Prelude.{⊤};
+
+    ghost may_be_given = { λ _. ⊤ };
+
+    fn is_given(&self) -> bool {
+        true
+    }
 }
 
 #[test]
 fn an_interrupted_campaign_draws_no_number(rt: HostRuntime) -> Result<(), Fail> {
     assert_eq!(rt;
-        run_interrupted_campaign_counting_trials(&rt, rt.alloc()),
+        run_campaign_counting_done_and_undrawn(&rt, rt.alloc(), &EarlyStop::new(None, GivenSignal)),
         Some((0, 20))
     );
+    Ok(())
+}
+
+/// A model of one call, whose answer has to be true.
+const MEETING: &str = "(model meet (state int) (init 0) (command (list call (call meet 1)))
+  (op meet ((n int)) bool (pre true) (next s) (post r)))";
+
+/// A system for each of two workers. A call of one is true if the other is called before it ends.
+fn meeting_systems(alloc: Global) -> Option<Vec<BoxedSystem>> {
+    let flags = Arc::new(alloc, Flags::new()).ok()?;
+    let same = flags.clone().ok()?;
+    let first: BoxedSystem = Box::new(alloc, Pair::new(Side::First, flags)).ok()?;
+    let second: BoxedSystem = Box::new(alloc, Pair::new(Side::Second, same)).ok()?;
+    let mut systems = Vec::new(alloc);
+    systems.push(first).ok()?;
+    systems.push(second).ok()?;
+    Some(systems)
+}
+
+/// How many trials pass of a campaign of two trials on these systems, a call in each.
+fn count_passed_of_two<R: Threads + Wait + Sync>(
+    rt: &R,
+    alloc: Global,
+    systems: Vec<BoxedSystem>,
+) -> Option<usize> {
+    let settings = Settings {
+        trials: 2,
+        commands: 1,
+        repeats: 1,
+        ..Settings::default()
+    };
+    let plan = plan_of_model_text(alloc, MEETING, settings)?;
+    let ending = EarlyStop::new(None, NoSignal);
+    let closed = campaign_until(rt, alloc, plan, systems, &ending).ok()?;
+    let mut count: usize = 0;
+    for entry in closed.entries() {
+        if let Entry::Done(record) = entry {
+            if matches!(record.outcome(), TrialOutcome::Passed { .. }) {
+                count = count.saturating_add(1);
+            }
+        }
+    }
+    Some(count)
+}
+
+#[test]
+fn campaign_needs_two_workers(rt: HostRuntime) -> Result<(), Fail> {
+    let alloc = rt.alloc();
+    let passed = match meeting_systems(alloc) {
+        Some(systems) => count_passed_of_two(&rt, alloc, systems),
+        None => None,
+    };
+    assert_eq!(rt; passed, Some(2));
     Ok(())
 }

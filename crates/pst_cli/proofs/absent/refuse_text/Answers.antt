@@ -1,7 +1,7 @@
 use Rattle.std.proofs.Common.{◌++◌, [], ℕ, List, subst}
 use Rattle.pst_cli.specs.Head.{line_end}
 use Rattle.pst_cli.specs.Sending.{Sends}
-use Rattle.pst_cli.specs.declared.output.Status.TheVariants.{Refused}
+use Rattle.pst_cli.specs.declared.answer.Status.TheVariants.{Refused}
 use Rattle.pst_cli.proofs.absent.refuse_text.Goals as goal
 
 pub returns-in-NoSystem : goal.returns-in-NoSystem
@@ -13,4 +13,4 @@ returns-in-NoSystem g c =
     rw c.in-NoSystem.is (subst OfWord c.as_slice.ensures (subst OfName c.as_bytes.ensures.value (subst OfEnd c.as_slice-in-NoSystem.ensures c.write_refusal_parts.ensures)))
 
 pub returns-in-NoMemory : goal.returns-in-NoMemory
-returns-in-NoMemory g c = rw c.in-NoMemory.is c.write_with_status_or_lost-in-NoMemory.ensures
+returns-in-NoMemory g c = rw c.in-NoMemory.is c.send_text-in-NoMemory.ensures

@@ -1,4 +1,4 @@
-use Rattle.std.proofs.Common.{◌≡◌, ◌≤◌, ◌-◌, refl, sym, ap, subst, rules, arith}
+use Rattle.std.proofs.Common.{◌-◌}
 use Rattle.std.proofs.Math.Nat.{le_refl}
 use Rattle.pst_cli.proofs.Generated.{none_written, of_outputs}
 use Rattle.pst_cli.proofs.generate.generate_and_write_block_of_cases.Goals as goal

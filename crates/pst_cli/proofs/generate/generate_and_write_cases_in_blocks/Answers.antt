@@ -1,8 +1,8 @@
-use Rattle.std.proofs.Common.{◌≡◌, ◌≤◌, ◌-◌, ◌<◌, ◌+◌, false, refl, sym, ap, subst, arith}
+use Rattle.std.proofs.Common.{◌≡◌, ◌≤◌, ◌-◌, subst, arith}
 use Rattle.std.proofs.Math.Nat.{le_refl}
 use Rattle.pst_cli.proofs.Generated.{goes_on, nothing_written, stops}
 use Rattle.pst_cli.specs.Generating.{AreWritten}
-use Rattle.pst_cli.specs.declared.output.Status.TheVariants.{Accepted}
+use Rattle.pst_cli.specs.declared.answer.Status.TheVariants.{Accepted}
 use Rattle.pst_cli.proofs.generate.generate_and_write_cases_in_blocks.Goals as goal
 
 pub loop-next-init : goal.loop-next-init

@@ -1,6 +1,6 @@
 use Rattle.std.proofs.Common.{◌≡◌, ◌≤◌, ◌-◌, false}
 use Rattle.pst_cli.specs.Generating.{AreWritten}
-use Rattle.pst_cli.specs.declared.output.Status.TheVariants.{Accepted}
+use Rattle.pst_cli.specs.declared.answer.Status.TheVariants.{Accepted}
 use Rattle.pst_cli.proofs.generate.generate_and_write_cases_in_blocks.Given as goal
 
 abbrev pub invariant-loop-next : goal.invariant-loop-next

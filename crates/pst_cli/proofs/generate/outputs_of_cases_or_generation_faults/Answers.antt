@@ -1,4 +1,4 @@
-use Rattle.std.proofs.Common.{◌≡◌, ◌-◌, ◌∙◌, ap, subst, IfOk}
+use Rattle.std.proofs.Common.{◌-◌, ◌∙◌, ap, subst, IfOk}
 use Rattle.std.specs.List.{AllZip, range_with_len}
 use Rattle.rayon.specs.Numbers.{nat_range}
 use Rattle.pst_rejudge.proofs.Collected.{collected}

@@ -1,7 +1,7 @@
 use Rattle.std.proofs.Common.{◌≡◌, ◌≤◌, ◌-◌, length, get_or, sym, subst, arith}
 use Rattle.pst_case.specs.declared.history.Run.{Run}
 use Rattle.pst_cli.proofs.Graphs.{same_length, judged_at}
-use Rattle.pst_cli.proofs.Judging.{lawful_here, history_matches}
+use Rattle.pst_cli.proofs.JudgedRuns.{lawful_here, history_matches}
 use Rattle.pst_judge.specs.Judgement.{IsJudgement}
 use Rattle.pst_judge.specs.declared.judgement.Judged.{Judged}
 use Rattle.pst_cli.proofs.graph.graph_of_item_if_it_exists.Goals as goal

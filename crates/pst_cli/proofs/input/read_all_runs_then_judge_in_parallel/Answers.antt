@@ -1,6 +1,6 @@
 use Rattle.std.proofs.Common.{List, sym, subst}
 use Rattle.pst_case.specs.declared.history.Run.{Run}
-use Rattle.pst_cli.proofs.Judging.{are_judged}
+use Rattle.pst_cli.proofs.JudgedRuns.{are_judged}
 use Rattle.pst_cli.specs.Output.{AreJudged}
 use Rattle.pst_rejudge.proofs.Permitted.{may_be_judged}
 use Rattle.pst_typing.specs.Loading.{items_of}

@@ -1,5 +1,5 @@
 use Rattle.std.proofs.Common.{◌≡◌, ◌≤◌, ℕ, List, length, arith, ap, subst, sym}
-use Rattle.pst_cli.proofs.Judging.{are_judged}
+use Rattle.pst_cli.proofs.JudgedRuns.{are_judged}
 use Rattle.pst_cli.proofs.Reading.{all_are_kept, holds_both, items_are_lawful, kept_are_lawful}
 use Rattle.pst_cli.specs.Output.{HoldsRuns}
 use Rattle.pst_rejudge.specs.Parts.{joined}

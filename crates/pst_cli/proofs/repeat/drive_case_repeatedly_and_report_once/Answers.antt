@@ -1,11 +1,11 @@
-use Rattle.std.proofs.Common.{◌≡◌, ◌≢◌, ◌≤◌, ◌+◌, ◌++◌, ◌∙◌, ℕ, Option, Some, None, sym, ap, subst, rules, arith}
+use Rattle.std.proofs.Common.{◌≡◌, ◌++◌, ap, subst, rules, arith}
 use Rattle.pst_case.specs.OfModel.{OfModel}
 use Rattle.pst_case.specs.declared.case.Case.{Case}
 use Rattle.pst_cli.proofs.Keeping.{kept_on, reported_before}
 use Rattle.pst_cli.proofs.Repeating.{all_driven, one_more, some_driven}
 use Rattle.pst_cli.proofs.Reporting.{if_ok_both}
 use Rattle.pst_cli.specs.RepeatOutput.{IsRepeated, drives_line, lost}
-use Rattle.pst_cli.specs.declared.output.Output.{Output}
+use Rattle.pst_cli.specs.declared.answer.Output.{Output}
 use Rattle.pst_cli.specs.RunOutput.{IsReported}
 use Rattle.pst_judge.specs.Validity.{IsValid}
 use Rattle.pst_model.specs.declared.model.Source.{Source}

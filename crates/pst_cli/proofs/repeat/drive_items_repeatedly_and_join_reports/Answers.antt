@@ -1,9 +1,9 @@
-use Rattle.std.proofs.Common.{◌≡◌, List, ap, ◌∙◌}
+use Rattle.std.proofs.Common.{◌≡◌, ap, ◌∙◌}
 use Rattle.pst_cli.proofs.Reporting.{if_ok_both}
 use Rattle.pst_cli.specs.Outputs.{joined, worst_of}
 use Rattle.pst_cli.specs.RepeatOutput.{ReportsAll}
-use Rattle.pst_cli.specs.declared.output.Output.{Output}
-use Rattle.pst_cli.specs.declared.output.Status.TheVariants.{Accepted}
+use Rattle.pst_cli.specs.declared.answer.Output.{Output}
+use Rattle.pst_cli.specs.declared.answer.Status.TheVariants.{Accepted}
 use Rattle.pst_cli.proofs.repeat.drive_items_repeatedly_and_join_reports.Goals as goal
 
 pub returns-clause-reported : goal.returns-clause-reported

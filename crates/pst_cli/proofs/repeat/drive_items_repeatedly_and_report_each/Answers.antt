@@ -1,10 +1,10 @@
-use Rattle.std.proofs.Common.{◌≡◌, ◌+◌, ◌++◌, ◌∙◌, ◌∷◌, [], ℕ, suc, List, take, sym, ap, subst, arith}
+use Rattle.std.proofs.Common.{◌≡◌, ◌+◌, ◌++◌, ◌∷◌, [], ℕ, suc, List, take, sym, subst, arith}
 use Rattle.pst_case.specs.declared.history.Run.{Run}
-use Rattle.pst_cli.proofs.Judging.{lawful_here}
+use Rattle.pst_cli.proofs.JudgedRuns.{lawful_here}
 use Rattle.pst_cli.proofs.Keeping.{kept_on}
 use Rattle.pst_cli.proofs.Repeating.{repeated_before, repeated_more}
 use Rattle.pst_cli.specs.RepeatOutput.{AreRepeated, IsRepeated}
-use Rattle.pst_cli.specs.declared.output.Output.{Output}
+use Rattle.pst_cli.specs.declared.answer.Output.{Output}
 use Rattle.pst_cli.proofs.repeat.drive_items_repeatedly_and_report_each.Goals as goal
 
 pub drive_item_repeatedly_or_report_invalid-requires-clause-model : goal.drive_item_repeatedly_or_report_invalid-requires-clause-model

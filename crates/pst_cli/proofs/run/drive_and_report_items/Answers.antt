@@ -1,11 +1,11 @@
 use Rattle.std.proofs.Common.{◌≡◌, ◌+◌, ◌++◌, ℕ, List, sym, ap, ◌∙◌, subst}
-use Rattle.pst_cli.proofs.Judging.{lawful_here}
+use Rattle.pst_cli.proofs.JudgedRuns.{lawful_here}
 use Rattle.pst_cli.proofs.Keeping.{kept_on, reported_before}
 use Rattle.pst_cli.proofs.Reporting.{Completes, one_more, all_reported}
 use Rattle.pst_cli.specs.RunOutput.{IsReported}
 use Rattle.pst_cli.specs.Status.{or_worse}
-use Rattle.pst_cli.specs.declared.output.Status.{Status}
-use Rattle.pst_cli.specs.declared.output.Status.TheVariants.{Accepted}
+use Rattle.pst_cli.specs.declared.answer.Status.{Status}
+use Rattle.pst_cli.specs.declared.answer.Status.TheVariants.{Accepted}
 use Rattle.pst_cli.proofs.run.drive_and_report_items.Goals as goal
 
 pub drive_item_once_or_report_invalid-requires : goal.drive_item_once_or_report_invalid-requires

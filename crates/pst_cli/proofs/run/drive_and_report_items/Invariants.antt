@@ -1,5 +1,5 @@
 use Rattle.pst_cli.proofs.Reporting.{Completes}
-use Rattle.pst_cli.specs.declared.output.Status.TheVariants.{Accepted}
+use Rattle.pst_cli.specs.declared.answer.Status.TheVariants.{Accepted}
 use Rattle.pst_system.specs.Kept.{AreKept}
 use Rattle.pst_cli.proofs.run.drive_and_report_items.Given as goal
 

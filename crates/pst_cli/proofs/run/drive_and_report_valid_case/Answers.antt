@@ -2,7 +2,7 @@ use Rattle.std.proofs.Common.{◌≡◌}
 use Rattle.pst_cli.proofs.Reporting.{if_ok_both, reported_so}
 use Rattle.pst_cli.specs.ItemReports.{report_status, report_text}
 use Rattle.pst_cli.specs.RunOutput.{IsReported}
-use Rattle.pst_cli.specs.declared.output.Output.{Output}
+use Rattle.pst_cli.specs.declared.answer.Output.{Output}
 use Rattle.pst_cli.proofs.run.drive_and_report_valid_case.Goals as goal
 
 pub returns-clause-reported : goal.returns-clause-reported

@@ -1,4 +1,4 @@
-use Rattle.pst_cli.proofs.Judging.{lawful_here}
+use Rattle.pst_cli.proofs.JudgedRuns.{lawful_here}
 use Rattle.pst_cli.proofs.run_objects.drive_items_and_join_json_objects.Goals as goal
 
 pub drive_case_or_report_invalid-requires : goal.drive_case_or_report_invalid-requires

@@ -1,26 +1,33 @@
-use Rattle.std.proofs.Common.{◌≡◌, inl, inr, refl, subst, sym}
-use Rattle.pst_cli.proofs.Printing.{prints}
-use Rattle.pst_cli.proofs.Streamed.{whole_prints, unread_prints, no_memory_prints, unwritten_prints}
+use Rattle.std.proofs.Common.{refl}
+use Rattle.pst_cli.proofs.Printing.{file_reached, out_reached, reaches, refuses_so}
+use Rattle.pst_cli.proofs.Reporting.{if_ok_then}
+use Rattle.pst_cli.specs.Answers.{Answers, IsRefusalBy}
+use Rattle.pst_cli.specs.Head.{refusal_line}
 use Rattle.pst_cli.specs.StreamOutput.{IsStreamOutput, refused}
+use Rattle.pst_cli.specs.declared.answer.Status.TheVariants.{Refused}
 use Rattle.pst_cli.proofs.stream.judge_stream.Goals as goal
 
-pub returns-in-Ok : goal.returns-in-Ok
-returns-in-Ok g c = λ bytes known.
-    prints (IsStreamOutput c.args.input.now bytes) _ _ _ _ _ c.in-Ok.output.text.items _
-    (refused c.in-Ok-Err.refusal (rw c.in-Ok-Err.field-0-is at c.in-Ok-Err.ensures) c.in-Ok.ensures.text c.in-Ok.ensures.status) c.as_slice.ensures.value c.write_with_status_or_lost.ensures
+pub returns-in-Ok-Err : goal.returns-in-Ok-Err
+returns-in-Ok-Err g c = record {
+  prints = λ bytes known.
+      let IsSo = IsStreamOutput c.args.input.now bytes in
+      let line = refusal_line c.in-Ok-Err.refusal in
+      reaches _ IsSo _ c.refusal_answer.result
+      (if_ok_then (IsRefusalBy line Refused) (Answers IsSo)
+      (λ a is. refuses_so IsSo line a is (refused c.in-Ok-Err.refusal (rw c.in-Ok-Err.field-0-is at c.in-Ok-Err.ensures)))
+      c.refusal_answer.result c.refusal_answer.ensures) c.deliver.ensures;
+}
 
-pub returns-in-Ok-judge_stream_and_write_lines : goal.returns-in-Ok-judge_stream_and_write_lines
-returns-in-Ok-judge_stream_and_write_lines g c = λ bytes known.
-    whole_prints c.args.input.now bytes _ _ (rw c.in-Ok-Ok.field-0-is at c.in-Ok-Ok.ensures) _ _ known c.in-Ok-judge_stream_and_write_lines.ensures
-
-pub returns-in-Err-Unread : goal.returns-in-Err-Unread
-returns-in-Err-Unread g c = λ bytes known.
-    unread_prints c.args.input.now bytes _ _ (rw c.in-Ok-Ok.field-0-is at c.in-Ok-Ok.ensures) _ _ known _ _ (inl (refl, refl)) (rw c.in-Err-Unread.field-0-is at c.in-Err-Unread.ensures) c.write_with_status_or_lost-in-Err-Unread.ensures
-
-pub returns-in-Err-NoMemory : goal.returns-in-Err-NoMemory
-returns-in-Err-NoMemory g c = λ bytes known.
-    no_memory_prints c.args.input.now bytes _ _ (rw c.in-Ok-Ok.field-0-is at c.in-Ok-Ok.ensures) _ _ known _ _ (inr (refl, refl)) (rw c.in-Err-NoMemory.field-0-is at c.in-Err-NoMemory.ensures) c.write_with_status_or_lost-in-Err-NoMemory.ensures
+pub returns-in-Some : goal.returns-in-Some
+returns-in-Some g c = record {
+  prints = λ bytes known.
+      file_reached _ _ _ _ _ (IsStreamOutput c.args.input.now bytes) _ _ _ c.in-Some.file c.write_stream.new.sink c.in-Some.is refl refl
+      (c.write_stream.ensures c.args.input.now bytes c.in-Ok-Ok.file.trees.items (rw c.in-Ok-Ok.field-0-is at c.in-Ok-Ok.ensures) known);
+}
 
 pub returns : goal.returns
-returns g c = λ bytes known.
-    unwritten_prints c.args.input.now bytes _ _ (rw c.in-Ok-Ok.field-0-is at c.in-Ok-Ok.ensures) _ _ known (rw c.in-Err-Unwritten.field-0-is at c.in-Err-Unwritten.ensures)
+returns g c = record {
+  prints = λ bytes known.
+      out_reached _ _ _ _ _ (IsStreamOutput c.args.input.now bytes) _ _ _ c.in-None.is refl
+      (c.write_stream-in-None.ensures c.args.input.now bytes c.in-Ok-Ok.file.trees.items (rw c.in-Ok-Ok.field-0-is at c.in-Ok-Ok.ensures) known);
+}

@@ -1,4 +1,4 @@
-use Rattle.std.proofs.Common.{[], ◌≡◌, ◌<◌, ◌+◌, ◌∙◌, Bool, length, refl, sym, subst, rules, arith}
+use Rattle.std.proofs.Common.{[], refl, sym, subst, rules}
 use Rattle.pst_cli.proofs.Streaming.{begins, ends, goes_on, stops, stops_by, stops_in}
 use Rattle.pst_cli.specs.Streaming.{IsCutShort}
 use Rattle.pst_cli.specs.declared.stream.Cut.{Cut}

@@ -4,6 +4,8 @@ use denote.Param.Sent.{Sends, Syncs}
 use mir.Syntax.{Dict}
 use Rattle.pst.proofs.fn.main.spawn.OwnLists as own
 use Rattle.pst_clients.proofs.Sent as clients
+use Rattle.pst_clients.proofs.source.CallPipe.TheSendSync as pipe_crosses
+use Rattle.pst_clients.specs.contracts.source.CallPipe as pipes
 use Rattle.pst_driver.proofs.Sent.{boxed_send, boxed_sync}
 use Rattle.pst_samples.proofs.counter.Counter.TheSendSync as counter_crosses
 use Rattle.pst_samples.proofs.counter.Racy.TheSendSync as racy_crosses
@@ -28,8 +30,8 @@ use Rattle.std.specs.contracts.rt.LibcRuntime as runtime
 reads : IsSend (reader.the_row file.the_row heap.the_row ghosts)
 reads = search (crosses, sendable) depth 60 fits 20000
 
-writes : IsSend file.the_row
-writes = search (crosses, sendable) depth 60 fits 20000
+writes : IsSend (pipes.the_row file.the_row)
+writes = search (pipe_crosses.the_send, crosses, sendable) depth 60 fits 20000
 
 pub sends-part-1-1 : (d1 d2 : Dict) → Sends (own.part-1-1 d1 d2)
 sends-part-1-1 d1 d2 i = boxed_send (counter.the_row runtime.the_row) (counter_crosses.the_send runtime.the_row runtime_crosses.the_send)
@@ -51,7 +53,7 @@ sends-part-1-6 d1 d2 i = boxed_send meet.the_row meet_crosses.the_send
 
 pub sends-part-1-7 : (d1 d2 : Dict) → Sends (own.part-1-7 d1 d2)
 sends-part-1-7 d1 d2 i =
-    clients.boxed_send runtime.the_row (reader.the_row file.the_row heap.the_row ghosts) file.the_row runtime_crosses.the_send reads writes
+    clients.boxed_send runtime.the_row (reader.the_row file.the_row heap.the_row ghosts) (pipes.the_row file.the_row) _ _ runtime_crosses.the_send reads writes
 
 pub syncs-part-1-1 : (d1 d2 : Dict) → Syncs (own.part-1-1 d1 d2)
 syncs-part-1-1 d1 d2 i = boxed_sync (counter.the_row runtime.the_row) (counter_crosses.the_sync runtime.the_row runtime_crosses.the_sync)
@@ -73,4 +75,4 @@ syncs-part-1-6 d1 d2 i = boxed_sync meet.the_row meet_crosses.the_sync
 
 pub syncs-part-1-7 : (d1 d2 : Dict) → Syncs (own.part-1-7 d1 d2)
 syncs-part-1-7 d1 d2 i =
-    clients.boxed_sync runtime.the_row (reader.the_row file.the_row heap.the_row ghosts) file.the_row runtime_crosses.the_sync reads writes
+    clients.boxed_sync runtime.the_row (reader.the_row file.the_row heap.the_row ghosts) (pipes.the_row file.the_row) _ _ runtime_crosses.the_sync reads writes

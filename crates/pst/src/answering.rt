@@ -1,0 +1,87 @@
+//! The commands that need nothing but their input.
+ghost use Rattle.pst.specs.Answering.{HasTrials, IsInputAnswer, memory_text};
+ghost use Rattle.pst.specs.Endings.{Refuses};
+ghost use Rattle.pst_cli.specs.Answering.{Delivers, Reaches, Stands};
+
+use crate::item_progress::ProgressDisplay;
+use pst_cli::{
+    Absence, Destinations, ExplainOptions, ItemForm, OutputForm, Status, check_model,
+    convert_items, draw_item, explain_items, generate_cases, list_model, refuse,
+};
+use pst_sexpr::Sink;
+use pst_trial::Settings;
+use std::sync::Wait;
+use std::thread::Threads;
+
+/// A command that needs nothing but its input, with its options.
+#[derive(Clone, Copy, Drop)]
+pub enum InputCommand<'a> {
+    /// `check`. As JSON, the notices are after the object of the model.
+    Check {
+        form: OutputForm,
+        notices: &'a [u8],
+    },
+    /// `list`.
+    ListCode,
+    /// `convert`.
+    Convert(ItemForm),
+    /// `generate`: the cases of `count` trials from number `first` on.
+    Generate {
+        form: ItemForm,
+        settings: Settings,
+        first: u64,
+        count: u64,
+    },
+    /// `explain`.
+    Explain {
+        options: ExplainOptions<'a>,
+        /// Whether a line on standard error displays the progress.
+        has_progress_line: bool,
+    },
+    /// `explain` as the graph of one item, or of the first that is not explained.
+    Draw {
+        item: Option<usize>,
+        is_whole: bool,
+    },
+}
+
+/// Writes why there is nothing to begin with to the output, and returns the status. The file for results stays as it is.
+pub fn refuse_absent<F: Sink, W: Sink>(why: Absence<'_>, to: &mut Destinations<F, W>) -> Status
+    requires { Stands F.broken W.broken to.old }
+    ensures { Refuses F.taken F.broken W.taken W.broken to.old to.new result }
+{
+    refuse(why, to)
+}
+
+/// Writes the output of a command for an input, and returns its status.
+pub fn answer_input_command<
+    F: Sink,
+    W: Sink,
+    R: Threads + Wait + Sync + Eprint + AllocGlobal + Copy + Drop + Send + 'static,
+>(rt: &R, command: InputCommand<'_>, input: &[u8], to: &mut Destinations<F, W>) -> Status
+    requires trials { HasTrials command }
+    requires stands { Stands F.broken W.broken to.old }
+    ensures { Reaches (memory_text command.entry) (IsInputAnswer command.entry input.now)
+        (Delivers F.taken F.broken W.taken W.broken to.old to.new result) }
+{
+    let alloc = rt.alloc();
+    match command {
+        InputCommand::Check { form, notices } => check_model(alloc, input, form, notices, to),
+        InputCommand::ListCode => list_model(alloc, input, to),
+        InputCommand::Convert(form) => convert_items(alloc, input, form, to),
+        InputCommand::Generate {
+            form,
+            settings,
+            first,
+            count,
+        } => generate_cases(rt, alloc, input, form, settings, first, count, to),
+        InputCommand::Explain {
+            options,
+            has_progress_line,
+        } => {
+            let mut display = ProgressDisplay::of_items(rt, alloc, has_progress_line, "explained");
+            explain_items(rt, alloc, input, options, &mut display, to)
+        }
+        InputCommand::Draw { item, is_whole } => draw_item(rt, alloc, input, item, is_whole, to),
+    }
+}

@@ -1,8 +1,0 @@
-use Rattle.pst_cli.proofs.Printing.{prints}
-use Rattle.pst_cli.specs.Output.{IsShownOutput}
-use Rattle.pst_cli.proofs.judge.judge_file_and_keep_items.Goals as goal
-
-pub returns-in-Ok-clause-prints : goal.returns-in-Ok-clause-prints
-returns-in-Ok-clause-prints g c =
-    prints (IsShownOutput c.args.shown c.args.input.now) (g.W.Sink.taken c.args.sink.now) (g.W.Sink.taken c.write_with_status_or_lost.new.sink) (g.W.Sink.broken c.write_with_status_or_lost.new.sink) c.write_with_status_or_lost.result c.in-Ok.output.status
-    c.in-Ok.output.text.items c.as_slice.result.now c.in-Ok.ensures.output c.as_slice.ensures.value c.write_with_status_or_lost.ensures

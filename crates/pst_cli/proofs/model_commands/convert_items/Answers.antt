@@ -1,0 +1,6 @@
+use Rattle.pst_cli.proofs.Printing.{reaches}
+use Rattle.pst_cli.specs.ConvertOutput.{IsConvertOutput}
+use Rattle.pst_cli.proofs.model_commands.convert_items.Goals as goal
+
+pub returns : goal.returns
+returns g c = record { prints = reaches _ (IsConvertOutput c.args.form c.args.input.now) _ c.convert_answer.result c.convert_answer.ensures c.deliver.ensures }

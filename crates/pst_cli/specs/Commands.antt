@@ -1,0 +1,81 @@
+-- Which output is meant by the options of a command, and what is returned beside it.
+use Rattle.std.specs.Prelude.{ℕ, zero, suc, Bool, true, false, List, Option, Some, None, All}
+use Rattle.pst_cli.specs.Answering.{Unsaid}
+use Rattle.pst_cli.specs.CampaignOutput.{Gives}
+use Rattle.pst_cli.specs.EarlyOutput.{IsEarlyOutput}
+use Rattle.pst_cli.specs.JsonOutput.{IsCheckJson, IsJudgeJson}
+use Rattle.pst_cli.specs.KeepingOn.{HoldsAnswers, IsShownKeepingOn}
+use Rattle.pst_cli.specs.Kept.{HoldsJudged}
+use Rattle.pst_cli.specs.Output.{IsCheckOutput, IsShownOutput}
+use Rattle.pst_cli.specs.RepeatOutput.{IsRepeatOutput}
+use Rattle.pst_cli.specs.RunOutput.{IsRunOutput}
+use Rattle.pst_cli.specs.declared.answer.OutputForm.{OutputForm}
+use Rattle.pst_cli.specs.declared.answer.OutputForm.TheVariants as form
+use Rattle.pst_cli.specs.declared.answer.Status.{Status}
+use Rattle.pst_cli.specs.declared.drive.DriveOptions.{DriveOptions}
+use Rattle.pst_cli.specs.declared.judge.JudgeOptions.{JudgeOptions}
+use Rattle.pst_cli.specs.declared.judge.Judging.{Judging}
+use Rattle.pst_cli.specs.declared.judge.Judging.TheVariants as judging
+use Rattle.pst_cli.specs.declared.lines.Shown.{Shown}
+use Rattle.pst_rejudge.specs.Parts.{joined}
+use Rattle.pst_runs.specs.Lawful.{AreLawful}
+use Rattle.pst_system.specs.Kept.{Answers, Fails, ResetFails}
+use Rattle.pst_trial.specs.declared.plan.Settings.{Settings}
+
+-- an output for an input
+abbrev pub OutputOf : Type 1
+OutputOf = List ℕ → List ℕ → Status → Type 0
+
+-- ---- `pst check`
+
+-- the line of the model; or its object, and after it the notices
+abbrev pub check_answer : OutputForm → (notices : List ℕ) → OutputOf
+check_answer form.Text notices = IsCheckOutput
+check_answer form.Json notices = λ input. IsCheckJson input notices
+
+-- ---- `pst judge`
+
+-- lines up to the first refused item; lines of all items; or the objects of all items
+abbrev pub judge_answer : OutputForm → (keeps_going : Bool) → Shown → OutputOf
+judge_answer form.Text false which = IsShownOutput which
+judge_answer form.Text true which = IsShownKeepingOn which
+judge_answer form.Json keeps_going which = IsJudgeJson which
+
+-- of these the last two
+abbrev pub each_answer : OutputForm → Shown → OutputOf
+each_answer form.Text which = IsShownKeepingOn which
+each_answer form.Json which = IsJudgeJson which
+
+abbrev pub IsJudgeAnswer : JudgeOptions → OutputOf
+IsJudgeAnswer options = judge_answer options.form options.keeps_going options.shown
+
+-- what was judged is what the input holds; what is kept of the runs may be judged
+abbrev pub HoldsJudging : List ℕ → Judging → Type 0
+HoldsJudging input (judging.UpToRefusal file) =
+    HoldsJudged false input file.compiled (joined file.runs.items) file.judged.items
+    × All (λ runs. AreLawful file.compiled runs.items) file.runs.items
+HoldsJudging input (judging.Each answered) =
+    HoldsAnswers input answered.file.compiled answered.file.trees.items answered.answers.items
+
+-- ---- `pst run`
+
+-- each case driven once; or as often as is said
+abbrev pub times_answer : Option ℕ → Answers → Fails → ResetFails → OutputOf
+times_answer None answers fails reset_fails = IsRunOutput answers fails reset_fails
+times_answer (Some zero) answers fails reset_fails = IsRunOutput answers fails reset_fails
+times_answer (Some (suc n)) answers fails reset_fails = IsRepeatOutput answers fails reset_fails (suc n)
+
+-- of the objects nothing is said
+abbrev pub drive_answer : OutputForm → Option ℕ → Answers → Fails → ResetFails → OutputOf
+drive_answer form.Text repeats answers fails reset_fails = times_answer repeats answers fails reset_fails
+drive_answer form.Json repeats answers fails reset_fails = λ input. Unsaid
+
+abbrev pub IsDriveAnswer : DriveOptions → Answers → Fails → ResetFails → OutputOf
+IsDriveAnswer options = drive_answer options.form options.repeats
+
+-- ---- `pst campaign`
+
+-- the report; of its object nothing is said
+abbrev pub IsCampaignAnswer : {S : Type 0} → OutputForm → (may_end : Type 0) → Gives S → Settings → (systems : List S) → OutputOf
+IsCampaignAnswer form.Text may_end may_give settings systems = IsEarlyOutput may_end may_give settings systems
+IsCampaignAnswer form.Json may_end may_give settings systems = λ input. Unsaid
