@@ -46,19 +46,19 @@ worse_than_best Lost = refl
 
 -- the form of what is written if an allocation fails
 form_of : InputCommand → OutputForm
-form_of (command.Check form notices) = form
+form_of (command.Check f notices) = f
 form_of command.ListCode = form.Text
-form_of (command.Convert form) = form.Text
-form_of (command.Generate form settings first count) = form_beside form
+form_of (command.Convert f) = form.Text
+form_of (command.Generate f settings first count) = form_beside f
 form_of (command.Explain options has_progress_line) = form.Text
 form_of (command.Draw item is_whole) = form.Text
 
 memory_is : (command : InputCommand) → memory_text command ≡ memory_of (form_of command)
 unfolding form_of
-memory_is (command.Check form notices) = refl
+memory_is (command.Check f notices) = refl
 memory_is command.ListCode = refl
-memory_is (command.Convert form) = refl
-memory_is (command.Generate form settings first count) = refl
+memory_is (command.Convert f) = refl
+memory_is (command.Generate f settings first count) = refl
 memory_is (command.Explain options has_progress_line) = refl
 memory_is (command.Draw item is_whole) = refl
 

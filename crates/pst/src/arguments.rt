@@ -103,8 +103,11 @@ fn dissimilar_option_in_tip<'a>(
 /// The commands of the launcher, which the program does not have.
 const OF_THE_LAUNCHER: [&str; 3] = ["new", "install", "uninstall"];
 
-/// Returns a line that lists the commands of the program, without those that its help leaves out, or that says which
-/// program has the command `name`.
+/// The commands that the help of the program lists.
+const COMMANDS_LINE: &str =
+    "  commands: check, generate, judge, explain, convert, run, campaign, fmt, verdicts\n\n";
+
+/// Returns a line that lists the commands of the program, or that says which program has the command `name`.
 fn line_on_unknown_command(alloc: Global, name: &str) -> Result<String, AllocError> {
     for known in OF_THE_LAUNCHER {
         if known == name {
@@ -113,18 +116,7 @@ fn line_on_unknown_command(alloc: Global, name: &str) -> Result<String, AllocErr
             );
         }
     }
-    let program = subcommands::clap_command_for_program(alloc)?;
-    let mut line = String::from_str(alloc, "  commands:")?;
-    let mut separator = " ";
-    for command in program.get_subcommands() {
-        let known = command.get_name();
-        if known != "list" {
-            write!(line, "{separator}{known}")?;
-            separator = ", ";
-        }
-    }
-    line.push_str("\n\n")?;
-    Ok(line)
+    String::from_str(alloc, COMMANDS_LINE)
 }
 
 /// Returns a line on what to do in place of the option `unknown` of `subcommand`, or an empty text.
