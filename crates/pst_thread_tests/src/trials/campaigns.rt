@@ -203,24 +203,22 @@ fn an_interrupted_campaign_draws_no_number(rt: HostRuntime) -> Result<(), Fail> 
 const MEETING: &str = "(model meet (state int) (init 0) (command (list call (call meet 1)))
   (op meet ((n int)) bool (pre true) (next s) (post r)))";
 
-/// A system for each of two workers. A call of one is true if the other is called before it ends.
-fn meeting_systems(alloc: Global) -> Option<Vec<BoxedSystem>> {
-    let flags = Arc::new(alloc, Flags::new()).ok()?;
-    let same = flags.clone().ok()?;
-    let first: BoxedSystem = Box::new(alloc, Pair::new(Side::First, flags)).ok()?;
-    let second: BoxedSystem = Box::new(alloc, Pair::new(Side::Second, same)).ok()?;
-    let mut systems = Vec::new(alloc);
-    systems.push(first).ok()?;
-    systems.push(second).ok()?;
-    Some(systems)
+/// How many of these trials passed.
+fn count_passed(entries: &[Entry<Record>]) -> usize {
+    let mut count: usize = 0;
+    for entry in entries {
+        if let Entry::Done(record) = entry {
+            if matches!(record.outcome(), TrialOutcome::Passed { .. }) {
+                count = count.saturating_add(1);
+            }
+        }
+    }
+    count
 }
 
-/// How many trials pass of a campaign of two trials on these systems, a call in each.
-fn count_passed_of_two<R: Threads + Wait + Sync>(
-    rt: &R,
-    alloc: Global,
-    systems: Vec<BoxedSystem>,
-) -> Option<usize> {
+/// How many trials pass of a campaign of two trials, a call in each, with a system for each of two workers. A call of one
+/// system is true if the other is called before it ends.
+fn count_passed_of_two_that_meet<R: Threads + Wait + Sync>(rt: &R, alloc: Global) -> Option<usize> {
     let settings = Settings {
         trials: 2,
         commands: 1,
@@ -228,26 +226,20 @@ fn count_passed_of_two<R: Threads + Wait + Sync>(
         ..Settings::default()
     };
     let plan = plan_of_model_text(alloc, MEETING, settings)?;
+    let flags = Arc::new(alloc, Flags::new()).ok()?;
+    let same = flags.clone().ok()?;
+    let first: BoxedSystem = Box::new(alloc, Pair::new(Side::First, flags)).ok()?;
+    let second: BoxedSystem = Box::new(alloc, Pair::new(Side::Second, same)).ok()?;
+    let mut systems = Vec::new(alloc);
+    systems.push(first).ok()?;
+    systems.push(second).ok()?;
     let ending = EarlyStop::new(None, NoSignal);
     let closed = campaign_until(rt, alloc, plan, systems, &ending).ok()?;
-    let mut count: usize = 0;
-    for entry in closed.entries() {
-        if let Entry::Done(record) = entry {
-            if matches!(record.outcome(), TrialOutcome::Passed { .. }) {
-                count = count.saturating_add(1);
-            }
-        }
-    }
-    Some(count)
+    Some(count_passed(closed.entries()))
 }
 
 #[test]
 fn campaign_needs_two_workers(rt: HostRuntime) -> Result<(), Fail> {
-    let alloc = rt.alloc();
-    let passed = match meeting_systems(alloc) {
-        Some(systems) => count_passed_of_two(&rt, alloc, systems),
-        None => None,
-    };
-    assert_eq!(rt; passed, Some(2));
+    assert_eq!(rt; count_passed_of_two_that_meet(&rt, rt.alloc()), Some(2));
     Ok(())
 }
