@@ -38,7 +38,7 @@ struct CampaignOptions<'a> {
     is_terminal: bool,
     /// The file of the page of failures, if it is written.
     page: Option<&'a str>,
-    /// Where failures are saved, if they are.
+    /// The folder for failures, if they are saved.
     saver: Option<&'a FailureSaver<'a>>,
     input: Input<'a>,
     /// The width of lines of explanations, in bytes.

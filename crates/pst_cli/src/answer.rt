@@ -76,12 +76,12 @@ impl Answer {
     }
 }
 
-/// Where an answer goes.
+/// The two places that an answer may go to.
 #[derive(Drop)]
 pub struct Destinations<F, W> {
     /// The file for results, if there is one. An answer goes there unless it refuses the whole input.
     pub file: Option<F>,
-    /// Where all other answers go.
+    /// The place for all other answers.
     pub out: W,
 }
 

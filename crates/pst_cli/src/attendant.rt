@@ -1,8 +1,8 @@
-//! One who is told how far a command is.
+//! Watchers of the progress of a command.
 
 use pst_rejudge::ProgressCounter;
 
-/// One who is told how far a command is. It changes nothing of what is written.
+/// A watcher of the progress of a command. It changes nothing of what is written.
 pub trait Attendant {
     /// The counter of the steps that the command has done. The command counts in it, and never reads it.
     fn steps(&self) -> &ProgressCounter;

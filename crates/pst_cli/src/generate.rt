@@ -261,7 +261,7 @@ fn plan_of_input(
 ///
 /// The status is `Failed` if a callback faults, else `Accepted`. If the model is refused, writes its refusal alone to
 /// `out`, with the status `Refused`. If an allocation fails, writes `refused memory` after the lines so far, with the
-/// status `Lost`; alone and to `out` if it fails before the first case. In JSON both are objects. The status is also
+/// status `Lost`; alone and to `out` if it fails before the plan is made. In JSON both are objects. The status is also
 /// `Lost` if the writer fails.
 pub fn generate_cases<F: Sink, W: Sink, R: Threads + Sync>(
     rt: &R,
