@@ -1,6 +1,6 @@
 """Campaigns on the sample system `stuck`, which answers 0 to `inc` and `get` and refuses all other calls."""
 from language import Fault
-from judging import Answer, Command, commands_of, fault_of, lengths, validity, verdict, within_limits
+from judging import Answer, Command, Item, commands_of, fault_of, lengths, validity, verdict, within_limits
 from trees import Word, spelled
 from values import Variable, tree_of_value, variables_in, with_parts
 
@@ -142,7 +142,7 @@ def run_of(model, parts):
     """The history of a drive, and the verdict on it."""
     history = driven(model, parts)
     replies = [reply if isinstance(reply, Answer) else None for part in history for reply in part]
-    return parts, history, verdict(model, parts, replies)
+    return parts, history, verdict(model, Item(parts, replies, None))
 
 
 def candidates(parts):

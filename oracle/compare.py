@@ -37,12 +37,14 @@ def compare_judging(program, file, random):
     model = Model(read(source)[0])
     ill = model.first_ill_typed()
     if ill is not None:
-        wanted = (f"refused type item {ill}\n", f"refused type item {ill}\n")
+        wanted = (f"refused type item {ill}\n",) * 3
     else:
         source += "\n" + "\n".join(inputs.item(model) for _ in range(ITEMS)) + "\n"
-        wanted = (f"ok {model.name}\n", lines(model, read(source)[1:]))
+        trees = read(source)[1:]
+        wanted = (f"ok {model.name}\n", lines(model, trees), lines(model, trees, in_time=False))
     file.write_text(source)
-    compare(source, wanted, (output_of(program, "check", file), output_of(program, "judge", file)))
+    asked = [["check"], ["judge"], ["judge", "--order", "none"]]
+    compare(source, wanted, tuple(output_of(program, *words, file) for words in asked))
     return wanted[1]
 
 

@@ -9,7 +9,7 @@ import pathlib
 import re
 import sys
 
-from judging import commands_of, merges_of, order_of, read_item
+from judging import commands_of, merges_in_time, order_of, read_item
 from language import Fault, Model
 from trees import read
 from values import Reference, with_parts
@@ -40,7 +40,7 @@ def is_right(model, operation, names):
 
 def core_of(model, item):
     """The least set of commands that no merge makes right together, or None where all can be right."""
-    sets = {right_along(model, item, merge) for merge in merges_of(item.parts)} - {None}
+    sets = {right_along(model, item, merge) for merge in merges_in_time(item)} - {None}
     count = len(commands_of(item.parts))
     found = (wanted for wanted in range(1 << count) if all(wanted & ~right for right in sets))
     wanted = next(found, None)
@@ -66,4 +66,5 @@ def main():
     print(f"the cores of {count} runs: no difference")
 
 
-main()
+if __name__ == "__main__":
+    main()

@@ -266,10 +266,47 @@ class Inputs:
         if self.chance(0.3):
             return spelled([Word("case"), *trees])
         replies = [[self.reply_tree(one) for one in part] for part in self.replies(model, parts)]
+        times = [[Word("times"), *self.times(replies[1:-1])]] * self.chance(0.5)
         replies = replies if has_suffix else replies[:-1]
         if self.chance(0.01):
             replies.pop()
-        return spelled([Word("run"), *trees, [Word("replies"), *replies]])
+        return spelled([Word("run"), *trees, [Word("replies"), *replies], *times])
+
+    def times(self, replies):
+        """Times of the calls of branches: half of them around the places of the interleaving that gave the replies."""
+        merge = self.merge
+        if self.chance(0.5):
+            merge = self.random.sample(merge, len(merge))
+        times, instant = [[] for _ in replies], lambda least, most: self.random.randint(least, most)
+        for place, branch in enumerate(merge):
+            at, last = 4 * place + 4, times[branch][-1][1] if times[branch] else 0
+            if last > at:
+                times[branch][-1][1] = last = at
+            times[branch].append([instant(last, at), at + instant(0, 9)])
+        trees = [[[Word(str(number)) for number in time] for time in part] for part in times]
+        for part, answers in zip(trees, replies):
+            if part and self.chance(0.1):
+                part[-1][1] = Word("-")
+            del part[sum(reply != Word("not-run") for reply in answers):]
+        return self.mistaken(trees)
+
+    def mistaken(self, trees):
+        """Times with a mistake, now and then."""
+        calls = [(part, place) for part in trees for place in range(len(part))]
+        if not calls or self.chance(0.93):
+            return trees
+        part, place = self.random.choice(calls)
+        wrong = ["-", "x", "01", "0", str(1 << 64), str((1 << 64) - 1), "9"]
+        choice = self.random.randrange(5)
+        if choice == 0:
+            part.pop(place)
+        elif choice == 1:
+            part[place] = self.random.choice([Word("5"), [], [Word("5")], [Word("5"), Word("6"), Word("7")]])
+        elif choice == 2:
+            trees.pop()
+        else:
+            part[place][self.random.randrange(2)] = Word(self.random.choice(wrong))
+        return trees
 
     def commands(self, model, counts, mistakes):
         """The commands of each part, as pairs of an operation and its arguments."""
@@ -306,6 +343,7 @@ class Inputs:
         replies = [None] * len(commands)
         merge = [branch for branch, part in enumerate(parts[1:-1]) for _ in part]
         self.random.shuffle(merge)
+        self.merge = merge
         recorded = lambda one: Reference(one.number, replies[one.number - 1])
         try:
             state = model.run(model.single["init"], {})

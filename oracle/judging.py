@@ -8,9 +8,11 @@ from values import NoValue, Reference, Variable, fits, value_of_tree, variables_
 # A command: the number of its operation and its arguments.
 Command = namedtuple("Command", "operation arguments")
 # The parts are the prefix, the branches and the suffix. `replies` has the answer of each command, or None where it is
-# no value; it is None itself where nothing is recorded.
-Item = namedtuple("Item", "parts replies")
+# no value; it is None itself where nothing is recorded. `times` has the times of the calls of each branch, or is None.
+Item = namedtuple("Item", "parts replies times")
 Answer = namedtuple("Answer", "value")
+# When a call was invoked, and when it completed, or None.
+Time = namedtuple("Time", "invoked completed")
 LETTERS = "LRST"
 
 
@@ -32,28 +34,31 @@ def commands_of(parts):
 
 
 def read_item(model, tree):
-    parts, replies = parts_of_item(tree)
+    parts, replies, times = parts_of_item(tree)
     for part in parts:
         if any(not isinstance(one, list) or one == [] or not isinstance(one[0], Word) for one in part):
             raise Refused(0, "BadForm")
-    if replies is not None and any(not isinstance(part, list) for part in replies):
+    if any(not isinstance(part, list) for part in [*(replies or []), *(times or [])]):
         raise Refused(0, "BadForm")
     if not within_limits(lengths(parts)):
         raise Refused(0, "OverLimit")
     commands = read_commands(model, parts)
     if replies is None:
-        return Item(commands, None)
+        return Item(commands, None, None)
     if lengths(replies) != lengths(parts):
         raise Refused(0, "NotAFit")
-    return Item(commands, read_replies(model, commands_of(commands), commands_of(replies)))
+    answers = read_replies(model, commands_of(commands), commands_of(replies))
+    return Item(commands, answers, None if times is None else read_times(replies, times))
 
 
 def parts_of_item(tree):
-    """The trees of the commands of each part, and those of the replies, if the item is a run."""
+    """The trees of the commands of each part, and those of the replies and of the times, if the item is a run that has them."""
     if not is_headed(tree, "case") and not is_headed(tree, "run"):
         raise Refused(0, "BadForm")
-    rest, replies = tree[1:], None
+    rest, replies, times = tree[1:], None, None
     if is_headed(tree, "run"):
+        if rest and is_headed(rest[-1], "times"):
+            times = rest.pop()[1:]
         if not rest or not is_headed(rest[-1], "replies"):
             raise Refused(0, "BadForm")
         replies = rest.pop()[1:]
@@ -75,7 +80,9 @@ def parts_of_item(tree):
         if len(replies) != len(parts) - (not has_suffix):
             raise Refused(0, "BadForm")
         replies += [] if has_suffix else [[]]
-    return parts, replies
+    if times is not None and len(times) != len(branches):
+        raise Refused(0, "BadForm")
+    return parts, replies, times
 
 
 def within_limits(counts):
@@ -140,6 +147,39 @@ def read_replies(model, commands, trees):
     return replies
 
 
+def read_times(replies, lists):
+    """The times of the calls of each branch. A call has a time if its reply is not `not-run`."""
+    called = [[reply != Word("not-run") or not isinstance(reply, Word) for reply in part] for part in replies]
+    if any(len(trees) != sum(part) for part, trees in zip(called[1:-1], lists)):
+        raise Refused(0, "BadTimes")
+    times, number = [], len(called[0])
+    for part, trees in zip(called[1:-1], lists):
+        times.append([])
+        trees = iter(trees)
+        for is_called in part:
+            number += 1
+            if is_called:
+                times[-1].append(read_time(number, next(trees), times[-1]))
+    return times
+
+
+def read_time(number, tree, before):
+    is_pair = isinstance(tree, list) and len(tree) == 2 and all(isinstance(word, Word) for word in tree)
+    if not is_pair or not is_instant(tree[0]) or not (tree[1] == "-" or is_instant(tree[1])):
+        raise Refused(number, "BadTimes")
+    time = Time(int(tree[0]), None if tree[1] == "-" else int(tree[1]))
+    is_over = not before or before[-1].completed is not None and before[-1].completed <= time.invoked
+    if not is_over or time.completed is not None and time.completed < time.invoked:
+        raise Refused(number, "BadTimes")
+    return time
+
+
+def is_instant(word):
+    """Whether a word is a number of 64 bits in its shortest form."""
+    is_decimal = all(digit in "0123456789" for digit in word) and (word == "0" or not word.startswith("0"))
+    return word != "" and is_decimal and int(word) < 1 << 64
+
+
 # ---- interleavings
 
 
@@ -156,6 +196,22 @@ def merges(counts):
 
 def merges_of(parts):
     return merges(lengths(parts)[1:-1])
+
+
+def merges_in_time(item):
+    """The interleavings in which no call is before one that completed before it was invoked; all, if there are no times."""
+    for merge in merges_of(item.parts):
+        if item.times is None or is_in_time(merge, item.times):
+            yield merge
+
+
+def is_in_time(merge, times):
+    calls, done = [], [0] * len(times)
+    for branch in merge:
+        calls.append(times[branch][done[branch]])
+        done[branch] += 1
+    precedes = lambda one, other: one.completed is not None and one.completed < other.invoked
+    return not any(precedes(later, call) for place, call in enumerate(calls) for later in calls[place + 1:])
 
 
 def spelled(merge):
@@ -180,7 +236,7 @@ def order_of(parts, merge):
 
 
 def judged(model, item):
-    return validity(model, item.parts) if item.replies is None else verdict(model, item.parts, item.replies)
+    return validity(model, item.parts) if item.replies is None else verdict(model, item)
 
 
 def validity(model, parts):
@@ -211,7 +267,8 @@ def why_not_valid(model, parts, state, merge):
     return None
 
 
-def verdict(model, parts, replies):
+def verdict(model, item):
+    parts, replies = item.parts, item.replies
     if None in replies:
         return f"broken {replies.index(None) + 1}"
     try:
@@ -219,7 +276,7 @@ def verdict(model, parts, replies):
     except Fault as fault:
         return f"fault 0 init {fault}"
     first_fault, far = None, -1
-    for merge in merges_of(parts):
+    for merge in merges_in_time(item):
         fault, true_events, is_true = replay(model, parts, replies, start, merge)
         if is_true:
             return f"explained {spelled(merge)}"
@@ -248,12 +305,13 @@ def replay(model, parts, replies, state, merge):
     return None, true_events, True
 
 
-def lines(model, trees):
-    """What `pst judge` prints of the items."""
+def lines(model, trees, in_time=True):
+    """What `pst judge` prints of the items; or `pst judge --order none`, which leaves times aside."""
     text = ""
     for number, tree in enumerate(trees, 1):
         try:
-            text += f"{number} {judged(model, read_item(model, tree))}\n"
+            item = read_item(model, tree)
+            text += f"{number} {judged(model, item if in_time else item._replace(times=None))}\n"
         except Refused as refused:
             return f"refused run {number} command {refused.command} {refused.kind}\n"
     return text

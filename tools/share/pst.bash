@@ -7,10 +7,10 @@ _pst() {
     return
   fi
   case $command in
-    campaign) options="--client --shared --seed --trials --commands --branches --suffix --repeats --workers --limit --max-failures --stop-file --save --html --format --output --quiet --help" ;;
-    run) options="--client --shared --branches --repeats --format --output --quiet --help" ;;
-    judge) options="--keep-going --all-messages --failures --stream --format --output --quiet --help" ;;
-    explain) options="--format --dot --all --width --color --item --failures --max --output --quiet --help" ;;
+    campaign) options="--client --shared --seed --trials --commands --branches --suffix --repeats --workers --limit --order --max-failures --stop-file --save --html --format --output --quiet --help" ;;
+    run) options="--client --shared --branches --repeats --order --format --output --quiet --help" ;;
+    judge) options="--keep-going --all-messages --failures --order --stream --format --output --quiet --help" ;;
+    explain) options="--format --dot --all --width --color --item --failures --order --max --output --quiet --help" ;;
     generate) options="--first --trials --seed --commands --branches --suffix --format --output --quiet --help" ;;
     check) options="--format --output --quiet --help" ;;
     convert) options="--to --output --quiet --help" ;;
@@ -20,6 +20,7 @@ _pst() {
   esac
   case ${COMP_WORDS[COMP_CWORD - 1]} in
     --color) COMPREPLY=($(compgen -W "auto always never" -- "$word")) && return ;;
+    --order) COMPREPLY=($(compgen -W "time none" -- "$word")) && return ;;
     --format)
       local forms="text json"
       [ "$command" != explain ] || forms="text json html dot"

@@ -18,6 +18,7 @@ complete -c pst -n "__fish_seen_subcommand_from campaign run judge explain conve
 complete -c pst -n "__fish_seen_subcommand_from campaign run judge explain convert check generate" -s o -l output -r -d "the file of the output"
 complete -c pst -n "__fish_seen_subcommand_from campaign run judge check generate" -l format -x -a "text json"
 complete -c pst -n "__fish_seen_subcommand_from explain" -l format -x -a "text json html dot"
+complete -c pst -n "__fish_seen_subcommand_from campaign run judge explain" -l order -x -a "time none" -d "which interleavings may explain a run"
 complete -c pst -n "__fish_seen_subcommand_from explain" -l color -x -a "auto always never"
 complete -c pst -n "__fish_seen_subcommand_from explain" -l all -d "the whole search of an explained run"
 complete -c pst -n "__fish_seen_subcommand_from explain" -l max -x -d "the most items"

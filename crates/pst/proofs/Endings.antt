@@ -51,7 +51,7 @@ form_of command.ListCode = form.Text
 form_of (command.Convert f) = form.Text
 form_of (command.Generate f settings first count) = form_beside f
 form_of (command.Explain options has_progress_line) = form.Text
-form_of (command.Draw item is_whole) = form.Text
+form_of (command.Draw order item is_whole) = form.Text
 
 memory_is : (command : InputCommand) → memory_text command ≡ memory_of (form_of command)
 unfolding form_of
@@ -60,7 +60,7 @@ memory_is command.ListCode = refl
 memory_is (command.Convert f) = refl
 memory_is (command.Generate f settings first count) = refl
 memory_is (command.Explain options has_progress_line) = refl
-memory_is (command.Draw item is_whole) = refl
+memory_is (command.Draw order item is_whole) = refl
 
 module _ {S : Type 0} {answers : S → Answers} {fails : S → Fails} {reset_fails : S → ResetFails} {systems : List S} {may_end : Type 0}
     {F W : Type 0} {f_taken : F → Option (List ℕ)} {f_broken : F → Bool} {w_taken : W → Option (List ℕ)} {w_broken : W → Bool}

@@ -19,7 +19,7 @@ HasTrials ListCode = Unit {0}
 HasTrials (Convert form) = Unit {0}
 HasTrials (Generate form settings first count) = AreInRange settings × (first + count < 2 ^ 64)
 HasTrials (Explain options has_progress_line) = Unit {0}
-HasTrials (Draw item is_whole) = Unit {0}
+HasTrials (Draw order item is_whole) = Unit {0}
 
 -- what is written if an allocation fails
 abbrev pub memory_text : InputCommand → List ℕ
@@ -28,12 +28,12 @@ memory_text ListCode = memory_line
 memory_text (Convert form) = memory_line
 memory_text (Generate form settings first count) = memory_in form
 memory_text (Explain options has_progress_line) = memory_line
-memory_text (Draw item is_whole) = memory_line
+memory_text (Draw order item is_whole) = memory_line
 
 abbrev pub IsInputAnswer : InputCommand → OutputOf
 IsInputAnswer (Check form notices) = check_answer form notices.now
 IsInputAnswer ListCode = IsListOutput
 IsInputAnswer (Convert form) = IsConvertOutput form
 IsInputAnswer (Generate form settings first count) = IsGenerateOutput form settings first count
-IsInputAnswer (Explain options has_progress_line) = λ input. IsExplainOutput input options.chosen
-IsInputAnswer (Draw item is_whole) = λ input. IsGraphOutput input item
+IsInputAnswer (Explain options has_progress_line) = λ input. IsExplainOutput options.order input options.chosen
+IsInputAnswer (Draw order item is_whole) = λ input. IsGraphOutput order input item

@@ -29,7 +29,7 @@ subcommand_of command.ListCode = subcommand.List
 subcommand_of (command.Convert form) = subcommand.Convert
 subcommand_of (command.Generate form settings first count) = subcommand.Generate
 subcommand_of (command.Explain options has_progress_line) = subcommand.Explain
-subcommand_of (command.Draw item is_whole) = subcommand.Explain
+subcommand_of (command.Draw order item is_whole) = subcommand.Explain
 
 -- the systems, if they were made
 abbrev pub made : {S E : Type 0} → Result (Vec S Global) E → List S

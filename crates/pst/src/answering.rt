@@ -5,7 +5,7 @@ ghost use Rattle.pst_cli.specs.Answering.{Delivers, Reaches, Stands};
 
 use crate::item_progress::ProgressDisplay;
 use pst_cli::{
-    Absence, Destinations, ExplainOptions, ItemForm, OutputForm, Status, check_model,
+    Absence, CallOrder, Destinations, ExplainOptions, ItemForm, OutputForm, Status, check_model,
     convert_items, draw_item, explain_items, generate_cases, list_model, refuse,
 };
 use pst_sexpr::Sink;
@@ -40,6 +40,7 @@ pub enum InputCommand<'a> {
     },
     /// `explain` as the graph of one item, or of the first that is not explained.
     Draw {
+        order: CallOrder,
         item: Option<usize>,
         is_whole: bool,
     },
@@ -82,6 +83,10 @@ pub fn answer_input_command<
             let mut display = ProgressDisplay::of_items(rt, alloc, has_progress_line, "explained");
             explain_items(rt, alloc, input, options, &mut display, to)
         }
-        InputCommand::Draw { item, is_whole } => draw_item(rt, alloc, input, item, is_whole, to),
+        InputCommand::Draw {
+            order,
+            item,
+            is_whole,
+        } => draw_item(rt, alloc, input, order, item, is_whole, to),
     }
 }

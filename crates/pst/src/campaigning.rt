@@ -17,7 +17,9 @@ use crate::systems::system_name_from_arguments_or_empty;
 use crate::{diagnostics, failure_explanations, outputs, page, subcommands};
 use clap::ArgMatches;
 use pst_campaign::{EarlyStop, Signal};
-use pst_cli::{Absence, CampaignNotes, Destinations, OutputForm, Status, report_campaign};
+use pst_cli::{
+    Absence, CampaignNotes, Destinations, KnownSystem, OutputForm, Status, report_campaign,
+};
 use pst_sexpr::Sink;
 use pst_sources::Input;
 use pst_system::{BoxedSystem, System};
@@ -36,6 +38,8 @@ struct CampaignOptions<'a> {
     is_quiet: bool,
     /// Whether standard error is a terminal.
     is_terminal: bool,
+    /// The system, if it is a sample.
+    sample: Option<KnownSystem>,
     /// The file of the page of failures, if it is written.
     page: Option<&'a str>,
     /// The folder for failures, if they are saved.
@@ -127,7 +131,13 @@ fn write_beside_report<R: Eprint + Files + AllocGlobal>(
     };
     if has_messages {
         failure_explanations::print_campaign_explanations_to_stderr(
-            rt, alloc, settings, bytes, &mut notes, width,
+            rt,
+            alloc,
+            settings,
+            options.sample,
+            bytes,
+            &mut notes,
+            width,
         );
         if notes.first_genfault.is_none() {
             diagnostics::print_input_warnings_to_stderr(rt, alloc, files, bytes);
@@ -210,6 +220,7 @@ pub fn run_campaign_subcommand<
         most: arguments.get_one("max-failures"),
         is_quiet,
         is_terminal: context.terminals.errors,
+        sample: KnownSystem::named(name),
         page: arguments.get_str("html"),
         saver: saver.as_ref(),
         input,

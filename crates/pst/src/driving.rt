@@ -4,12 +4,14 @@ ghost use Rattle.pst_cli.specs.Commands.{IsDriveAnswer};
 
 use crate::item_progress::ProgressDisplay;
 use crate::preparing::SubcommandContext;
-use crate::subcommands::output_form_from_arguments;
+use crate::subcommands::{order_for_systems_from_arguments, output_form_from_arguments};
 use crate::systems::system_in_box;
 use crate::{failure_explanations, outputs};
 use clap::ArgMatches;
 use pst_case::Run;
-use pst_cli::{Destinations, DriveOptions, ItemResultCounts, Status, Unattended, drive_items};
+use pst_cli::{
+    CallOrder, Destinations, DriveOptions, ItemResultCounts, Status, Unattended, drive_items,
+};
 use pst_driver::{MisfitRecorder, Misfits, misfit_lines_text};
 use pst_sexpr::Sink;
 use pst_system::{BoxedSystem, System};
@@ -24,6 +26,7 @@ fn explain_first_broken_run_and_count_rest<R: Eprint>(
     rt: &R,
     alloc: Global,
     input: &[u8],
+    order: CallOrder,
     counts: &mut ItemResultCounts,
     line_width: usize,
 ) {
@@ -42,6 +45,7 @@ fn explain_first_broken_run_and_count_rest<R: Eprint>(
         alloc,
         heading.as_str(),
         input,
+        order,
         shaped.into_case(),
         history,
         line_width,
@@ -58,6 +62,7 @@ pub fn drive_options_from_arguments(arguments: &ArgMatches<'_>) -> DriveOptions 
     DriveOptions {
         form: output_form_from_arguments(arguments),
         repeats: arguments.get_one("repeats"),
+        order: order_for_systems_from_arguments(arguments),
     }
 }
 
@@ -100,7 +105,14 @@ pub fn drive_with_messages<
     let status = drive_items(rt, alloc, input, system, options, counts, &mut display, to);
     if !outputs::has_output_failed(to) {
         print_misfits_to_stderr(rt, alloc, misfits);
-        explain_first_broken_run_and_count_rest(rt, alloc, input, counts, context.line_width);
+        explain_first_broken_run_and_count_rest(
+            rt,
+            alloc,
+            input,
+            options.order,
+            counts,
+            context.line_width,
+        );
     }
     status
 }

@@ -95,6 +95,7 @@ fn clap_explain_command_with_form_options<'a>(alloc: Global) -> Result<Command<'
 pub fn clap_command_for_explain<'a>(alloc: Global) -> Result<Command<'a>, AllocError> {
     clap_explain_command_with_form_options(alloc)?
         .arg(subcommands::only_failures_option(alloc))?
+        .arg(subcommands::order_option_for_recorded_runs(alloc))?
         .arg(item_number_option(alloc)?)?
         .arg(max_explained_items_option(alloc))?
         .arg(subcommands::output_option(alloc))?
@@ -176,9 +177,11 @@ pub fn explain_command_from_arguments<'a, R: Env + AllocGlobal>(
     ensures trials { HasTrials result }
     ensures subcommand { subcommand_of result ≡ subcommand.Explain }
 {
+    let order = subcommands::order_for_recorded_runs_from_arguments(arguments);
     let is_one = !arguments.get_flag("failures") && arguments.get_str("max").is_none();
     if is_dot_graph_selected(arguments) && is_one {
         return InputCommand::Draw {
+            order,
             item: item_number_from_arguments(arguments),
             is_whole: arguments.get_flag("all"),
         };
@@ -189,6 +192,7 @@ pub fn explain_command_from_arguments<'a, R: Env + AllocGlobal>(
             chosen: items_to_explain_from_arguments(arguments),
             most: max_items_from_arguments_or_unlimited(arguments),
             form: explanation_form_from_arguments(rt, arguments, terminals.output),
+            order,
         },
         has_progress_line: terminals.errors && !arguments.get_flag("quiet"),
     }

@@ -2,8 +2,11 @@
 //! and why the first trial without a case has none.
 ghost use Rattle.pst_trial.specs.Settings.{AreInRange};
 
+use crate::systems::sample_calls;
 use pst_case::{Case, Command, History, Reply};
-use pst_cli::{CampaignNotes, LostTrials, compile_model_and_explain_failed_run};
+use pst_cli::{
+    CallOrder, CampaignNotes, KnownSystem, LostTrials, compile_model_and_explain_failed_run,
+};
 use pst_driver::has_only_value_replies;
 use pst_messages::{explanation_why_trial_has_no_case, model_beginning_after_call};
 use pst_trial::Settings;
@@ -52,11 +55,13 @@ fn print_lost_trials<R: Eprint>(rt: &R, lost: &LostTrials) {
 
 /// Writes to standard error why no interleaving explains the least failure of a campaign, if it has a failure; the
 /// failure with the fewest calls, if another one has fewer; and why the first trial without a case has none, if there
-/// is such a trial. Lines of explanations have at most `line_width` bytes. If an allocation fails or the text cannot be written, the report and the status remain without it.
+/// is such a trial. `sample` is the system, if it is a sample. Lines of explanations have at most `line_width` bytes. If
+/// an allocation fails or the text cannot be written, the report and the status remain without it.
 pub fn print_campaign_explanations_to_stderr<R: Eprint>(
     rt: &R,
     alloc: Global,
     settings: Settings,
+    sample: Option<KnownSystem>,
     input: &[u8],
     notes: &mut CampaignNotes,
     line_width: usize,
@@ -64,7 +69,21 @@ pub fn print_campaign_explanations_to_stderr<R: Eprint>(
     requires { AreInRange settings }
 {
     if let Some((case, history)) = notes.least.take() {
-        print_least_failure_explanation_with_note(rt, alloc, input, case, history, line_width);
+        let has_failed = has_failed_call(&history);
+        print_least_failure_explanation_with_note(
+            rt,
+            alloc,
+            input,
+            settings.order,
+            case,
+            history,
+            line_width,
+        );
+        if let Some(system) = sample
+            && has_failed
+        {
+            let _ = eprint!(rt; "{}", sample_calls(system));
+        }
     }
     if let Some(shorter) = notes.shorter {
         let calls = if shorter.commands == 1 {
@@ -107,8 +126,9 @@ const LATER_STATE_NOTE: &str =
 /// The note on a run in which no two calls were made at the same time.
 const IN_TURN_NOTE: &str =
     "  No two calls of this run were made at the same time, so it shows no race. Is
-  the model right? Has each worker (PST_WORKER) a system of its own? Do all
-  clients of a worker use this system, or does each keep a state for itself?
+  the model right? Can a read lag behind a write, as one from a cache or a copy?
+  Has each worker (PST_WORKER) a system of its own? Do all clients of a worker
+  use this system, or does each keep a state for itself?
 ";
 
 /// The first words of an explanation of a fault.
@@ -145,6 +165,21 @@ fn first_command_and_reply_if_certain<'a>(
     first
 }
 
+/// Returns whether one of the replies is `failed`.
+fn is_one_failed(replies: &[Reply]) -> bool {
+    replies.iter().any(|reply| matches!(reply, Reply::Failed))
+}
+
+/// Returns whether a call of a run failed.
+fn has_failed_call(history: &History) -> bool {
+    let branches = history.branches.as_slice();
+    is_one_failed(history.prefix.as_slice())
+        || branches
+            .iter()
+            .any(|branch| is_one_failed(branch.as_slice()))
+        || is_one_failed(history.suffix.as_slice())
+}
+
 /// Returns whether at most one branch of a case has commands.
 fn has_at_most_one_branch_with_commands(case: &Case) -> bool {
     let branches = case.branches.as_slice().iter();
@@ -178,6 +213,7 @@ fn case_and_history_of_one_command(
         prefix: replies,
         branches: two_empty_branches(alloc)?,
         suffix: Items::new(alloc),
+        times: None,
     };
     Ok((case, history))
 }
@@ -207,6 +243,7 @@ fn is_reply_right_after_call(
     let explanation = compile_model_and_explain_failed_run(
         alloc,
         model.as_slice(),
+        CallOrder::Any,
         case,
         history,
         usize::MAX,
@@ -229,6 +266,7 @@ fn note_if_first_call_is_wrong(
     let explanation = compile_model_and_explain_failed_run(
         alloc,
         input,
+        CallOrder::Any,
         case,
         history,
         usize::MAX,
@@ -247,12 +285,14 @@ fn note_if_first_call_is_wrong(
     }
 }
 
-/// Writes why no interleaving explains the least failure of a campaign, to standard error, and a note if one applies. The
-/// lines of the explanation have at most `line_width` bytes. The model is at the beginning of `input`. If an allocation fails or a text cannot be written, nothing else is said.
+/// Writes why no interleaving that counts by `order` explains the least failure of a campaign, to standard error, and a
+/// note if one applies. The lines of the explanation have at most `line_width` bytes. The model is at the beginning of
+/// `input`. If an allocation fails or a text cannot be written, nothing else is said.
 fn print_least_failure_explanation_with_note<R: Eprint>(
     rt: &R,
     alloc: Global,
     input: &[u8],
+    order: CallOrder,
     case: Case,
     history: History,
     line_width: usize,
@@ -270,6 +310,7 @@ fn print_least_failure_explanation_with_note<R: Eprint>(
         alloc,
         "the least failure:",
         input,
+        order,
         case,
         history,
         line_width,
@@ -280,18 +321,22 @@ fn print_least_failure_explanation_with_note<R: Eprint>(
     }
 }
 
-/// Writes a heading and why no interleaving explains a run, to standard error, in lines of at most `line_width` bytes. The
-/// model is at the beginning of `input`. If an allocation fails or the text cannot be written, the run and its verdict remain without it.
+/// Writes a heading and why no interleaving that counts by `order` explains a run, to standard error, in lines of at most
+/// `line_width` bytes. The model is at the beginning of `input`. If an allocation fails or the text cannot be written, the
+/// run and its verdict remain without it.
 pub fn print_explanation_if_run_failed<R: Eprint>(
     rt: &R,
     alloc: Global,
     heading: &str,
     input: &[u8],
+    order: CallOrder,
     case: Case,
     history: History,
     line_width: usize,
 ) {
-    let explanation = compile_model_and_explain_failed_run(alloc, input, case, history, line_width);
+    let explanation = compile_model_and_explain_failed_run(
+        alloc, input, order, case, history, line_width,
+    );
     let Ok(Some(text)) = explanation else {
         return;
     };

@@ -122,9 +122,10 @@ failed or a file cannot be written.";
 pub const VERDICTS: &str = "\
 K is the number of an item or a trial, and C that of a command in its item, from 1: first the prefix, then each branch,
 then the suffix; 0 is the initial state. W is an interleaving: its letters are the branches L, R, S and T, each for its
-next command; `-` has no letters. CALLBACK is init, command, pre, next or post. FAULT is Overflow (beyond 64 bits),
-DivZero (a division by 0), Index (no such item of a list), Missing (no such key of a map), TooLong (a list, a text or a
-map over its limit) or Turns (the callback takes too many steps).
+next command; `-` has no letters. With --order time only interleavings in the order of the recorded times count.
+CALLBACK is init, command, pre, next or post. FAULT is Overflow (beyond 64 bits), DivZero (a division by 0), Index (no
+such item of a list), Missing (no such key of a map), TooLong (a list, a text or a map over its limit) or Turns (the
+callback takes too many steps).
 
 The verdict on a recorded run:
   explained W           The replies fit the interleaving W, the first one that they fit.
@@ -148,7 +149,8 @@ The other lines of `run` and `generate`:
 
 The report of a campaign:
   campaign NAME         the name of the model
-  seed N trials N ..    the options of the campaign; without `branches` there are 2, and without `suffix` there is none
+  seed N trials N ..    the options of the campaign; without `branches` there are 2, without `suffix` there is none, and
+                        without `order time` all interleavings count
   passed N              trials of which every run is explained
   unexplained N         trials that failed by an unexplained run
   faulted N             trials that failed by a fault

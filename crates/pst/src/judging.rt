@@ -1,11 +1,11 @@
 //! `pst judge`, with messages on standard error.
 ghost use Rattle.std.specs.Prelude.{All};
 ghost use Rattle.pst_cli.specs.Answering.{Delivers, Reaches, Stands, memory_of};
-ghost use Rattle.pst_cli.specs.Commands.{HoldsJudging, IsJudgeAnswer};
+ghost use Rattle.pst_cli.specs.Commands.{IsJudgeAnswer, IsJudgedInput};
 ghost use Rattle.pst_runs.specs.Lawful.{AreLawful};
 
 use crate::item_progress::ProgressDisplay;
-use crate::subcommands::output_form_from_arguments;
+use crate::subcommands::{order_for_recorded_runs_from_arguments, output_form_from_arguments};
 use clap::ArgMatches;
 use pst_cli::{
     Attendant, Destinations, FileWithItemResults, ItemResultCounts, JudgeOptions, JudgedFile,
@@ -99,7 +99,7 @@ fn count_and_print_messages<R: Eprint>(
     counts: &mut ItemResultCounts,
     judging: Judging,
 )
-    requires { HoldsJudging input.trees.bytes.now judging }
+    requires { IsJudgedInput input.trees.bytes.now judging }
 {
     match judging {
         Judging::UpToRefusal(file) => {
@@ -123,6 +123,7 @@ pub fn judge_options_from_arguments(arguments: &ArgMatches<'_>) -> JudgeOptions 
         } else {
             Shown::All
         },
+        order: order_for_recorded_runs_from_arguments(arguments),
         keeps_runs: !arguments.get_flag("quiet"),
     }
 }

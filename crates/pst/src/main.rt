@@ -3,6 +3,7 @@
 
 mod answering;
 mod arguments;
+mod branches;
 mod campaign_watchers;
 mod campaigning;
 mod clients;

@@ -7,8 +7,8 @@ use crate::stop_signals::StopFlag;
 use crate::subcommands::Subcommand;
 use crate::terminal::Terminals;
 use crate::{
-    diagnostics, formatting, generating, input, json_items, outputs, page, saving, streaming,
-    systems,
+    branches, diagnostics, formatting, generating, input, json_items, outputs, page, saving,
+    streaming, systems,
 };
 use clap::ArgMatches;
 use pst_cli::{Status, refuse_text};
@@ -126,7 +126,7 @@ fn refuse_invalid_arguments<R: Runtime + AllocGlobal>(
 }
 
 /// Reads the files that the arguments name, and prepares their input. If that fails, or the arguments are refused, or
-/// files are only laid out, the error is the status that the program ends with.
+/// files are only laid out, or a case has too many branches, the error is the status that the program ends with.
 pub fn prepare_input_or_run_fmt<'a, R: Runtime + AllocGlobal>(
     rt: &R,
     matches: &'a ArgMatches<'_>,
@@ -145,10 +145,11 @@ pub fn prepare_input_or_run_fmt<'a, R: Runtime + AllocGlobal>(
         Ok(read) => read,
         Err(why) => return Err(refuse_text(why, &mut Out::new(io::writer(rt)))),
     };
-    match PreparedInput::from_files(rt.alloc(), matches, read) {
-        Ok(prepared) => Ok(prepared),
-        Err(AllocError) => Err(diagnostics::print_memory_refusal(rt)),
-    }
+    let Ok(prepared) = PreparedInput::from_files(rt.alloc(), matches, read) else {
+        return Err(diagnostics::print_memory_refusal(rt));
+    };
+    branches::refuse_excess(rt, matches, &prepared)?;
+    Ok(prepared)
 }
 
 /// What a subcommand works on.

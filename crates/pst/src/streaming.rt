@@ -8,10 +8,11 @@ use crate::input::STANDARD_INPUT;
 use crate::item_progress::ProgressDisplay;
 use crate::line_messages::{MOST_LINES, RefusedLineMessages};
 use crate::outputs::print_file_error_to_stderr;
+use crate::subcommands::order_for_recorded_runs_from_arguments;
 use crate::terminal::Terminals;
 use clap::ArgMatches;
 use pst_cli::{
-    Absence, Attendant, Destinations, ItemResultCounts, RefusedLineReceiver, Status,
+    Absence, Attendant, CallOrder, Destinations, ItemResultCounts, RefusedLineReceiver, Status,
     count_items_of_input, judge_stream, refuse_text,
 };
 use pst_sexpr::Sink;
@@ -112,8 +113,9 @@ impl<I: Read> Read for ReadErrorKeeper<I> {
     }
 }
 
-/// Judges the items of a reader, one on each line, by the model at the beginning of `input`. If `has_progress_line`, a line
-/// displays how many are judged. Returns the status, and why the reader failed if it did. `receiver` gets the refused lines.
+/// Judges the items of a reader by an order, one on each line, by the model at the beginning of `input`. If
+/// `has_progress_line`, a line displays how many are judged. Returns the status, and why the reader failed if it did.
+/// `receiver` gets the refused lines.
 fn judge_stream_with_progress<
     I: Read + Drop,
     F: Sink,
@@ -124,13 +126,15 @@ fn judge_stream_with_progress<
     rt: &R,
     has_progress_line: bool,
     input: &[u8],
+    order: CallOrder,
     reader: I,
     counts: &mut ItemResultCounts,
     receiver: &mut L,
     to: &mut Destinations<F, W>,
 ) -> (Status, Option<io::Error>)
     requires { Stands F.broken W.broken to.old }
-    ensures { (bytes : List ℕ) → I.remaining reader ≡ Some bytes → Reaches memory_line (IsStreamOutput input.now bytes)
+    ensures { (bytes : List ℕ) → I.remaining reader ≡ Some bytes
+        → Reaches memory_line (IsStreamOutput order input.now bytes)
         (Delivers F.taken F.broken W.taken W.broken to.old to.new result.0) }
 {
     let alloc = rt.alloc();
@@ -143,6 +147,7 @@ fn judge_stream_with_progress<
         rt,
         alloc,
         input,
+        order,
         &mut reader,
         counts,
         display.steps(),
@@ -185,6 +190,7 @@ pub fn judge_standard_input_with_messages<
         rt,
         has_progress_line,
         input,
+        order_for_recorded_runs_from_arguments(arguments),
         rt.reader(),
         counts,
         &mut messages,

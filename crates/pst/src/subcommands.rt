@@ -7,7 +7,8 @@ use crate::{explaining, formatting, help, page};
 use clap::Command;
 pub use options::{
     is_client_option_given, is_json_selected, model_and_items_files_argument, only_failures_option,
-    output_form_from_arguments, output_option, quiet_option,
+    order_for_recorded_runs_from_arguments, order_for_systems_from_arguments,
+    order_option_for_recorded_runs, output_form_from_arguments, output_option, quiet_option,
 };
 pub use plan::{campaign_settings_from_arguments, settings_for_generate_from_arguments};
 use std::alloc::{AllocError, Global};
@@ -94,6 +95,7 @@ fn clap_command_for_judge<'a>(alloc: Global) -> Result<Command<'a>, AllocError> 
         .arg(options::keep_going_option(alloc))?
         .arg(options::all_messages_option(alloc))?
         .arg(only_failures_option(alloc))?
+        .arg(order_option_for_recorded_runs(alloc))?
         .arg(options::text_or_json_format_option(alloc))?
         .arg(options::stream_option(alloc)?)?
         .arg(output_option(alloc))?
@@ -110,6 +112,7 @@ fn clap_command_for_run<'a>(alloc: Global) -> Result<Command<'a>, AllocError> {
         .arg(options::client_branches_option(alloc)?)?
         .arg(model_and_items_files_argument(alloc))?
         .arg(options::repeats_option(alloc))?
+        .arg(options::order_option_for_systems(alloc))?
         .arg(options::text_or_json_format_option(alloc))?
         .arg(output_option(alloc))?
         .arg(quiet_option(alloc))
@@ -127,6 +130,7 @@ fn clap_command_for_campaign<'a>(alloc: Global) -> Result<Command<'a>, AllocErro
         options::model_file_argument(alloc),
     )?;
     plan::add_campaign_number_options(alloc, command)?
+        .arg(options::order_option_for_systems(alloc))?
         .arg(options::max_failures_option(alloc))?
         .arg(options::stop_file_option(alloc))?
         .arg(options::save_failures_option(alloc))?

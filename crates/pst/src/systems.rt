@@ -15,6 +15,23 @@ use std::rt::Files;
 /// The systems that the program makes.
 pub const SYSTEMS: [&str; 6] = ["counter", "racy", "stuck", "registry", "queue", "meet"];
 
+/// The note on a call that failed: the calls that a sample answers.
+pub fn sample_calls(system: KnownSystem) -> &'static str {
+    match system {
+        KnownSystem::Counter =>
+            "  The sample `counter` answers (inc) and (get): is this its model?\n",
+        KnownSystem::Racy => "  The sample `racy` answers (inc) and (get): is this its model?\n",
+        KnownSystem::Stuck => "  The sample `stuck` answers (inc) and (get): is this its model?\n",
+        KnownSystem::Registry => {
+            "  The sample `registry` answers (new), (read N) and (close N): is this its model?\n"
+        }
+        KnownSystem::Queue =>
+            "  The sample `queue` answers (put N) and (take): is this its model?\n",
+        KnownSystem::Meet =>
+            "  The sample `meet` answers (meet 1) and (meet 2): is this its model?\n",
+    }
+}
+
 /// The systems that the arguments name, one for each worker.
 #[derive(Clone, Copy, Debug, PartialEq, Eq, Drop)]
 pub enum ChosenSystems<'a> {

@@ -11,13 +11,13 @@ ghost use Rattle.std.specs.Coded.{codes};
 use crate::plans::{WatchedPlan, loss_cause_of_trial_fault};
 use crate::runner::{TrialRunner, run_trials_at_own_seat};
 use crate::watch::StopCondition;
-use pst_driver::{Crew, Relations, Subject, SystemWithRelations, start_crew};
+use pst_driver::{CallClock, Crew, Relations, Subject, SystemWithRelations, start_crew};
 use pst_ledger::{Cause, Ledger, Seat};
 use pst_system::{BoxedSystem, System};
 use pst_trial::{
-    Plan, Record, ShrinkProgress, prove_records_are_send_and_sync, run_trial_with_crew,
+    CallOrder, Plan, Record, ShrinkProgress, prove_records_are_send_and_sync, run_trial_with_crew,
 };
-use std::alloc::Global;
+use std::alloc::{AllocError, Global};
 use std::marker::Brand;
 use std::sync::{Arc, Wait};
 use std::thread;
@@ -203,9 +203,20 @@ fn start_crew_run_trials_and_dismiss<
     )
 }
 
+/// Makes a clock for a crew whose drives record times, which are those of a plan with the order `Time`.
+fn clock_if_drives_are_timed(
+    alloc: Global,
+    order: CallOrder,
+) -> Result<Option<CallClock>, AllocError> {
+    match order {
+        CallOrder::Any => Ok(None),
+        CallOrder::Time => Ok(Some(CallClock::new(alloc)?)),
+    }
+}
+
 /// Works at a fresh seat with a crew on the system, whose relations are those that `J` names. If the threads of the
-/// crew do not all start, it does no work and returns the seat and the system, as an `Err`. Each clause is a fact on
-/// one of the things that it is given or gives back.
+/// crew do not all start, or there is no memory for its clock, it does no work and returns the seat and the system, as an
+/// `Err`. Each clause is a fact on one of the things that it is given or gives back.
 fn run_trials_with_new_crew<
     K: StopCondition,
     J: Relations + Send + Sync,
@@ -231,7 +242,10 @@ fn run_trials_with_new_crew<
     ensures kept { IfErr result (λ back. AreKept (S.may_answer back.1) J.answering
         (S.may_fail back.1) J.failing (S.may_refuse_reset back.1) J.resetting) }
 {
-    let crew: Crew<J, S> = Crew::new(SystemWithRelations::new(system));
+    let Ok(clock) = clock_if_drives_are_timed(alloc, plan.settings().order) else {
+        return Err((seat, system));
+    };
+    let crew: Crew<J, S> = Crew::new(SystemWithRelations::new(system), clock);
     match start_crew_run_trials_and_dismiss(rt, alloc, plan, watch, ledger, seat, &crew) {
         Ok(seat) => Ok(seat),
         Err(seat) => Err((seat, crew.into_system())),
@@ -239,7 +253,8 @@ fn run_trials_with_new_crew<
 }
 
 /// Works at a fresh seat with a crew on the system, whose relations get names for this call. If the threads of
-/// the crew do not all start, it does no work and returns the seat and the system, as an `Err`.
+/// the crew do not all start, or there is no memory for its clock, it does no work and returns the seat and the system,
+/// as an `Err`.
 fn run_trials_on_system_with_crew<
     K: StopCondition,
     S: Subject + Send + Sync + Drop,
@@ -267,8 +282,8 @@ fn run_trials_on_system_with_crew<
 }
 
 /// Works at a fresh seat on the system in a box until no number is left or the plan is over, and returns the
-/// seat. It keeps a thread for each branch from drive to drive. If these cannot all be started, each drive
-/// starts its own.
+/// seat. It keeps a thread for each branch from drive to drive. If these cannot all be started, or there is no
+/// memory for their clock, each drive starts its own.
 pub(crate) fn run_trials_with_or_without_crew<K: StopCondition, H: Threads + Wait>(
     rt: &H,
     alloc: Global,

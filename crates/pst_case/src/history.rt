@@ -21,12 +21,23 @@ pub enum Reply {
     NotRun,
 }
 
-/// The replies to the commands of a case, part by part.
+/// When a call was invoked and when it completed: integers from 0, all on one clock.
+#[derive(Clone, Copy, Debug, PartialEq, Eq, Drop)]
+pub struct CallTime {
+    pub invoked: u64,
+    /// `None` if nobody knows that the call completed.
+    pub completed: Option<u64>,
+}
+
+/// The replies to the commands of a case, part by part, and the times of the calls of the branches, if they were
+/// recorded.
 #[derive(Debug, PartialEq, Eq, Drop)]
 pub struct History {
     pub prefix: Items<Reply>,
     pub branches: Items<Items<Reply>>,
     pub suffix: Items<Reply>,
+    /// A list for each branch, with a time for each command that was called.
+    pub times: Option<Items<Items<CallTime>>>,
 }
 
 /// A case, with its recorded history if it was run.
@@ -60,6 +71,29 @@ fn copy_replies(alloc: Global, replies: &[Reply]) -> Result<Items<Reply>, AllocE
     Ok(copies)
 }
 
+fn copy_calls(alloc: Global, calls: &[CallTime]) -> Result<Items<CallTime>, AllocError>
+    ensures { IfOk result (λ copies. copies ≡ calls.now) }
+{
+    let mut copies = Items::new(alloc);
+    for call in calls {
+        copies.push(*call)?;
+    }
+    Ok(copies)
+}
+
+fn copy_times(
+    alloc: Global,
+    times: &[Items<CallTime>],
+) -> Result<Items<Items<CallTime>>, AllocError>
+    ensures { IfOk result (λ copies. copies ≡ times.now) }
+{
+    let mut copies = Items::new(alloc);
+    for calls in times {
+        copies.push(copy_calls(alloc, calls.as_slice())?)?;
+    }
+    Ok(copies)
+}
+
 impl History {
     /// An equal history.
     pub fn copy(&self, alloc: Global) -> Result<History, AllocError>
@@ -69,10 +103,15 @@ impl History {
         for branch in self.branches.as_slice() {
             branches.push(copy_replies(alloc, branch.as_slice())?)?;
         }
+        let times = match &self.times {
+            Some(times) => Some(copy_times(alloc, times.as_slice())?),
+            None => None,
+        };
         Ok(History {
             prefix: copy_replies(alloc, self.prefix.as_slice())?,
             branches,
             suffix: copy_replies(alloc, self.suffix.as_slice())?,
+            times,
         })
     }
 }

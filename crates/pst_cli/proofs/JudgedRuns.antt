@@ -9,7 +9,8 @@ use Rattle.pst_cli.specs.Output.{AreJudged}
 use Rattle.pst_cli.specs.declared.answer.Answer.{Answer}
 use Rattle.pst_cli.specs.declared.answer.Status.{Status}
 use Rattle.pst_cli.specs.declared.judge.Judging.{Judging}
-use Rattle.pst_judge.specs.Judgement.{HistoryMatches, IsJudgement}
+use Rattle.pst_judge.specs.Judgement.{HistoryMatches, IsJudgementBy}
+use Rattle.pst_judge.specs.declared.by_order.CallOrder.{CallOrder}
 use Rattle.pst_judge.specs.declared.judgement.Judged.{Judged}
 use Rattle.pst_model.specs.declared.model.Source.{Source}
 use Rattle.pst_rejudge.proofs.One.{matches_if_any}
@@ -25,12 +26,13 @@ module _ (m : Source) where
   pub history_matches : (run : Run) → IsLawful m run → HistoryMatches m run
   history_matches run l = matches_if_any m run.shaped.case run.history l.matching
 
-  -- what is judged place by place is judged in order
-  pub are_judged : (runs : List Run) (all : List Judged) → AllZip (IsJudgement m) runs all → AreJudged m runs all
-  are_judged [] [] h = tt
-  are_judged [] (j ∷ js) h = h
-  are_judged (run ∷ runs) [] h = h
-  are_judged (run ∷ runs) (j ∷ js) h = (h.0, are_judged runs js h.1)
+  -- what is judged place by place is judged one after another
+  pub are_judged : (order : CallOrder) (runs : List Run) (all : List Judged) → AllZip (IsJudgementBy order m) runs all
+      → AreJudged order m runs all
+  are_judged order [] [] h = tt
+  are_judged order [] (j ∷ js) h = h
+  are_judged order (run ∷ runs) [] h = h
+  are_judged order (run ∷ runs) (j ∷ js) h = (h.0, are_judged order runs js h.1)
 
   lawful_both : (runs others : List Run) → AreLawful m (runs ++ others) → AreLawful m runs × AreLawful m others
   lawful_both [] others l = (tt, l)

@@ -18,6 +18,7 @@ use Rattle.pst_cli.specs.declared.lines.Shown.{Shown}
 use Rattle.pst_rejudge.specs.Answers.{IsAnswer}
 use Rattle.pst_rejudge.specs.declared.reading.ItemResult.{ItemResult}
 use Rattle.pst_rejudge.specs.declared.reading.ItemResult.TheVariants as answer
+use Rattle.pst_judge.specs.declared.by_order.CallOrder.{CallOrder}
 use Rattle.pst_judge.specs.declared.judgement.Judged.{Judged}
 use Rattle.pst_typing.specs.Loading.{IsRefusal, items_of}
 use Rattle.pst_typing.specs.declared.loading.Refusal.{Refusal}
@@ -41,25 +42,25 @@ split number (Ok run) (Ok others) runs e =
 split number (Ok run) (Err fault) runs e = absurd (cc)
 split number (Err fault) rest runs e = absurd (cc)
 
-cons : (m : Source) (form : Form) (forms : List Form) (run : Run) (others : List Run) (js : List Judged)
-    → item_of m form ≡ Ok run → AreJudged m (run ∷ others) js
-    → ((more : List Judged) → AreJudged m others more → AllZip (IsAnswer m) forms (map answer.Judged more))
-    → AllZip (IsAnswer m) (form ∷ forms) (map answer.Judged js)
-cons m form forms run others [] p a f = absurd a
-cons m form forms run others (j ∷ js) p a f = ((run, p, a.0), f js a.1)
+cons : (order : CallOrder) (m : Source) (form : Form) (forms : List Form) (run : Run) (others : List Run) (js : List Judged)
+    → item_of m form ≡ Ok run → AreJudged order m (run ∷ others) js
+    → ((more : List Judged) → AreJudged order m others more → AllZip (IsAnswer order m) forms (map answer.Judged more))
+    → AllZip (IsAnswer order m) (form ∷ forms) (map answer.Judged js)
+cons order m form forms run others [] p a f = absurd a
+cons order m form forms run others (j ∷ js) p a f = ((run, p, a.0), f js a.1)
 
 -- each item is answered by its judgement
-all_answered : (m : Source) (number : ℕ) (forms : List Form) (runs : List Run) (js : List Judged)
-    → runs_from m number forms ≡ Ok runs → AreJudged m runs js
-    → AllZip (IsAnswer m) forms (map answer.Judged js)
-all_answered m number [] [] [] e a = tt
-all_answered m number [] [] (j ∷ js) e a = absurd a
-all_answered m number [] (run ∷ runs) js e a = absurd (cc)
-all_answered m number (form ∷ forms) runs js e a =
+all_answered : (order : CallOrder) (m : Source) (number : ℕ) (forms : List Form) (runs : List Run) (js : List Judged)
+    → runs_from m number forms ≡ Ok runs → AreJudged order m runs js
+    → AllZip (IsAnswer order m) forms (map answer.Judged js)
+all_answered order m number [] [] [] e a = tt
+all_answered order m number [] [] (j ∷ js) e a = absurd a
+all_answered order m number [] (run ∷ runs) js e a = absurd (cc)
+all_answered order m number (form ∷ forms) runs js e a =
     elim (split number (item_of m form) (runs_from m (number + 1) forms) runs e) [
       | one_more run others p q s ↦
-          let AreSo : List Run → Type 0 = λ rs. AreJudged m rs js in
-          cons m form forms run others js p (subst AreSo s a) (λ more b. all_answered m (number + 1) forms others more q b)
+          let AreSo : List Run → Type 0 = λ rs. AreJudged order m rs js in
+          cons order m form forms run others js p (subst AreSo s a) (λ more b. all_answered order m (number + 1) forms others more q b)
     ]
 
 lines : (number : ℕ) (js : List Judged) → item_lines number js ≡ answer_lines number (map answer.Judged js)
@@ -96,19 +97,19 @@ worst_accepted (j ∷ js) =
     ∙ behind_one (is_good j) js (worst_accepted js)
 
 pub keeps : KeepsJudgements
-keeps input m trees runs js h r a =
-    answered m trees (map answer.Judged js) h (all_answered m 1 (items_of trees) runs js r a) (lines 1 js)
+keeps order input m trees runs js h r a =
+    answered m trees (map answer.Judged js) h (all_answered order m 1 (items_of trees) runs js r a) (lines 1 js)
     (sym (worst_accepted js))
 
 -- ---- what is written of all items, in a form
 
-pub each_answered : (form : OutputForm) (which : Shown) (input : List ℕ) (m : Source) (trees : List Form) (answers : List ItemResult)
-    (text : List ℕ) (status : Status) → HoldsAnswers input m trees answers
-    → text ≡ shown_results form which answers → status ≡ worst_status Accepted answers → each_answer form which input text status
-each_answered form.Text which input m trees answers text status h t s = answered m trees answers h.holds h.answered t s
-each_answered form.Json which input m trees answers text status h t s = object.answered m trees answers h.holds h.answered t s
+pub each_answered : (order : CallOrder) (form : OutputForm) (which : Shown) (input : List ℕ) (m : Source) (trees : List Form) (answers : List ItemResult)
+    (text : List ℕ) (status : Status) → HoldsAnswers order input m trees answers
+    → text ≡ shown_results form which answers → status ≡ worst_status Accepted answers → each_answer order form which input text status
+each_answered order form.Text which input m trees answers text status h t s = answered m trees answers h.holds h.answered t s
+each_answered order form.Json which input m trees answers text status h t s = object.answered m trees answers h.holds h.answered t s
 
-pub each_refused : (form : OutputForm) (which : Shown) (input : List ℕ) (refusal : Refusal) (text : List ℕ) (status : Status)
-    → IsRefusal input refusal → text ≡ refusal_of form refusal → status ≡ Refused → each_answer form which input text status
-each_refused form.Text which input refusal text status h t s = refused refusal h t s
-each_refused form.Json which input refusal text status h t s = object.refused refusal h t s
+pub each_refused : (order : CallOrder) (form : OutputForm) (which : Shown) (input : List ℕ) (refusal : Refusal) (text : List ℕ) (status : Status)
+    → IsRefusal input refusal → text ≡ refusal_of form refusal → status ≡ Refused → each_answer order form which input text status
+each_refused order form.Text which input refusal text status h t s = refused refusal h t s
+each_refused order form.Json which input refusal text status h t s = object.refused refusal h t s

@@ -15,6 +15,7 @@ use Rattle.pst_cli.specs.declared.answer.Status.TheVariants.{Accepted, Failed}
 use Rattle.pst_judge.specs.JudgedText.{judged_text, why_text, case_fault_text}
 use Rattle.pst_judge.specs.Same.{SameVerdict, SameWhy, SameJudgement, OneJudgement}
 use Rattle.pst_judge.specs.VerdictText.{verdict_text, word_text, fault_text}
+use Rattle.pst_judge.specs.declared.by_order.CallOrder.TheVariants.{Any}
 use Rattle.pst_judge.specs.declared.judgement.Judged.{Judged}
 use Rattle.pst_judge.specs.declared.judgement.Judged.TheVariants.{Verdict as Told, Valid, Invalid}
 use Rattle.pst_judge.specs.declared.judgement.Verdict.{Verdict}
@@ -149,7 +150,7 @@ same_item Valid (Invalid w) e = absurd e
 same_item (Invalid v) (Told w) e = absurd e
 same_item (Invalid v) Valid e = absurd e
 
-same_items : (k : OfParts) (m : Source) (runs : List Run) (js ks : List Judged) (number : ℕ) → AreJudged m runs js → AreJudged m runs ks → (item_lines number js ≡ item_lines number ks) × (list_all is_good js ≡ list_all is_good ks)
+same_items : (k : OfParts) (m : Source) (runs : List Run) (js ks : List Judged) (number : ℕ) → AreJudged Any m runs js → AreJudged Any m runs ks → (item_lines number js ≡ item_lines number ks) × (list_all is_good js ≡ list_all is_good ks)
 same_items k m [] [] [] number p q = (refl, refl)
 same_items k m [] [] (j ∷ ks) number p q = absurd q
 same_items k m [] (j ∷ js) ks number p q = absurd p
@@ -185,7 +186,7 @@ one_judge k input text other status ending (output.IsOutput.judged m runs js h a
     let o = one_model k input m n h.trees g.trees h.holds g.holds in
     let runs-are : runs_of n (items_of g.trees) ≡ Ok runs = ap (λ x. runs_of n (items_of x)) (sym o.0) ∙ ap (λ x. runs_of x (items_of h.trees)) (sym o.1) ∙ h.read in
     let same : runs ≡ more = is_ok (runs_of n (items_of g.trees)) runs more runs-are g.read in
-    let a' : AreJudged n more js = subst (λ x. AreJudged x more js) o.1 (subst (λ x. AreJudged m x js) same a) in
+    let a' : AreJudged Any n more js = subst (λ x. AreJudged Any x more js) o.1 (subst (λ x. AreJudged Any m x js) same a) in
     let f = same_items k n more js ks 1 a' b in
     (t.0 ∙ f.0 ∙ sym u.0, t.1 ∙ ap (λ good. if good then Accepted else Failed) f.1 ∙ sym u.1)
 one_judge k input text other status ending (output.IsOutput.judged m runs js h a t) (output.IsOutput.refused q) = absurd (not_refused k input other ending m runs h q)

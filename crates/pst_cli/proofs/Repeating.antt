@@ -11,6 +11,7 @@ use Rattle.pst_cli.specs.declared.answer.Output.{Output}
 use Rattle.pst_cli.specs.declared.answer.Status.{Status}
 use Rattle.pst_cli.specs.declared.answer.Status.TheVariants.{Lost}
 use Rattle.pst_judge.specs.Validity.{IsValid}
+use Rattle.pst_judge.specs.declared.by_order.CallOrder.{CallOrder}
 use Rattle.pst_model.specs.declared.model.Source.{Source}
 use Rattle.pst_system.specs.Kept.{Answers, Fails, ResetFails, AreKept}
 
@@ -41,10 +42,10 @@ one_more_failed : (accepted : Bool) (failed drives : ℕ) → failed ≤ drives 
 one_more_failed true failed drives h = omega (arith, h)
 one_more_failed false failed drives h = omega (arith, h)
 
-module _ (m : Source) (answers : Answers) (fails : Fails) (reset_fails : ResetFails) where
-  driven_more : (number : ℕ) (c : Case) (os : List Output) (o : Output) → AreDriven m answers fails reset_fails number c os
-      → IsReported m answers fails reset_fails number c o.text.items o.status → o.status ≢ Lost
-      → AreDriven m answers fails reset_fails number c (os ++ o ∷ [])
+module _ (order : CallOrder) (m : Source) (answers : Answers) (fails : Fails) (reset_fails : ResetFails) where
+  driven_more : (number : ℕ) (c : Case) (os : List Output) (o : Output) → AreDriven order m answers fails reset_fails number c os
+      → IsReported order m answers fails reset_fails number c o.text.items o.status → o.status ≢ Lost
+      → AreDriven order m answers fails reset_fails number c (os ++ o ∷ [])
   driven_more number c [] o h is kept = (is, kept, tt)
   driven_more number c (x ∷ os) o h is kept = (h.0, h.1, driven_more number c os o h.2 is kept)
 
@@ -52,7 +53,7 @@ module _ (m : Source) (answers : Answers) (fails : Fails) (reset_fails : ResetFa
   pub record HasDriven (number : ℕ) (c : Case) (drives : ℕ) (shown : Option Output) (failed : ℕ) : Type 0 where
     pub reports : List Output
     pub count : length reports ≡ drives
-    pub driven : AreDriven m answers fails reset_fails number c reports
+    pub driven : AreDriven order m answers fails reset_fails number c reports
     pub shows : shown ≡ shown_of None reports
     pub fails_so : failed ≡ failed_of 0 reports
     pub within : failed ≤ drives
@@ -63,7 +64,7 @@ module _ (m : Source) (answers : Answers) (fails : Fails) (reset_fails : ResetFa
       record { reports = []; count = refl; driven = tt; shows = refl; fails_so = refl; within = none }
 
   pub one_more : (number : ℕ) (c : Case) (drives : ℕ) (shown : Option Output) (failed : ℕ) (o : Output)
-      → HasDriven number c drives shown failed → IsReported m answers fails reset_fails number c o.text.items o.status → o.status ≢ Lost
+      → HasDriven number c drives shown failed → IsReported order m answers fails reset_fails number c o.text.items o.status → o.status ≢ Lost
       → HasDriven number c (drives + 1) (shown_after shown o) (if is_accepted o.status then failed else failed + 1)
   one_more number c drives shown failed o h is kept = record {
     reports = h.reports ++ o ∷ [];
@@ -76,7 +77,7 @@ module _ (m : Source) (answers : Answers) (fails : Fails) (reset_fails : ResetFa
 
   pub all_driven : (number : ℕ) (c : Case) (repeats : ℕ) (shown : Output) (failed : ℕ) (text : List ℕ) (status : Status) → IsValid m c
       → HasDriven number c repeats (Some shown) failed → text ≡ shown.text.items ++ drives_line number repeats failed → status ≡ shown.status
-      → IsRepeated m answers fails reset_fails repeats number c text status
+      → IsRepeated order m answers fails reset_fails repeats number c text status
   all_driven number c repeats shown failed text status is h t s =
       repeated is h.reports h.count h.driven shown (sym h.shows) (t ∙ ap (λ n. shown.text.items ++ drives_line number repeats n) h.fails_so) s
 
@@ -87,13 +88,13 @@ module _ (m : Source) (answers : Answers) (fails : Fails) (reset_fails : ResetFa
 
   -- the report of one more item
   pub repeated_more : (repeats number i : ℕ) (runs : List Run) (os : List Output) (o : Output) (d : Run) → i < length runs
-      → AreRepeated m answers fails reset_fails repeats number (take i runs) os
-      → IsRepeated m answers fails reset_fails repeats (i + number) (get_or runs i d).shaped.case o.text.items o.status
-      → AreRepeated m answers fails reset_fails repeats number (take (suc i) runs) (os ++ o ∷ [])
+      → AreRepeated order m answers fails reset_fails repeats number (take i runs) os
+      → IsRepeated order m answers fails reset_fails repeats (i + number) (get_or runs i d).shaped.case o.text.items o.status
+      → AreRepeated order m answers fails reset_fails repeats number (take (suc i) runs) (os ++ o ∷ [])
   repeated_more repeats number i [] os o d h all is = absurd (omega arith)
   repeated_more repeats number zero (run ∷ runs) [] o d h all is =
       let here : 0 + number ≡ number = omega arith in
-      (subst (λ n. IsRepeated m answers fails reset_fails repeats n run.shaped.case o.text.items o.status) here is, tt)
+      (subst (λ n. IsRepeated order m answers fails reset_fails repeats n run.shaped.case o.text.items o.status) here is, tt)
   repeated_more repeats number zero (run ∷ runs) (x ∷ os) o d h all is = absurd all
   repeated_more repeats number (suc i) (run ∷ runs) [] o d h all is = absurd all
   repeated_more repeats number (suc i) (run ∷ runs) (x ∷ os) o d h all is =
@@ -101,27 +102,27 @@ module _ (m : Source) (answers : Answers) (fails : Fails) (reset_fails : ResetFa
       let below : i < length runs = omega arith in (
         all.0,
         repeated_more repeats (number + 1) i runs os o d below all.1
-            (subst (λ n. IsRepeated m answers fails reset_fails repeats n (get_or runs i d).shaped.case o.text.items o.status) here is),
+            (subst (λ n. IsRepeated order m answers fails reset_fails repeats n (get_or runs i d).shaped.case o.text.items o.status) here is),
       )
 
 -- a report by the relations as they are is one by the relations as they were
-driven_before : {A B : Answers} {F G : Fails} {R S : ResetFails} (m : Source) (number : ℕ) (c : Case) (os : List Output)
-    → AreKept A B F G R S → AreDriven m A F R number c os → AreDriven m B G S number c os
-driven_before m number c [] k h = tt
-driven_before m number c (o ∷ os) k h =
-    (reported_before m number c o.text.items o.status k h.0, h.1, driven_before m number c os k h.2)
+driven_before : {A B : Answers} {F G : Fails} {R S : ResetFails} (order : CallOrder) (m : Source) (number : ℕ) (c : Case) (os : List Output)
+    → AreKept A B F G R S → AreDriven order m A F R number c os → AreDriven order m B G S number c os
+driven_before order m number c [] k h = tt
+driven_before order m number c (o ∷ os) k h =
+    (reported_before order m number c o.text.items o.status k h.0, h.1, driven_before order m number c os k h.2)
 
-pub repeated_before : {A B : Answers} {F G : Fails} {R S : ResetFails} (m : Source) (repeats number : ℕ) (c : Case) (text : List ℕ)
-    (status : Status) → AreKept A B F G R S → IsRepeated m A F R repeats number c text status
-    → IsRepeated m B G S repeats number c text status
-repeated_before m repeats number c text status k (repeated is reports count driven shown shows lines ending) =
-    repeated is reports count (driven_before m number c reports k driven) shown shows lines ending
-repeated_before m repeats number c text status k (invalid why reason lines ending) = invalid why reason lines ending
-repeated_before m repeats number c text status k (lost report ending) =
-    lost (reported_before m number c text status k report) ending
+pub repeated_before : {A B : Answers} {F G : Fails} {R S : ResetFails} (order : CallOrder) (m : Source) (repeats number : ℕ) (c : Case) (text : List ℕ)
+    (status : Status) → AreKept A B F G R S → IsRepeated order m A F R repeats number c text status
+    → IsRepeated order m B G S repeats number c text status
+repeated_before order m repeats number c text status k (repeated is reports count driven shown shows lines ending) =
+    repeated is reports count (driven_before order m number c reports k driven) shown shows lines ending
+repeated_before order m repeats number c text status k (invalid why reason lines ending) = invalid why reason lines ending
+repeated_before order m repeats number c text status k (lost report ending) =
+    lost (reported_before order m number c text status k report) ending
 
 -- the first refusal of an input is an output of `pst run --repeats`
-pub refused_repeats : (A : Answers) (F : Fails) (R : ResetFails) (repeats : ℕ) (input text : List ℕ) (status : Status)
-    → IsFirstRefusal input text status → IsRepeatOutput A F R repeats input text status
-refused_repeats A F R repeats input text status (of_model refusal h t s) = refused refusal h t s
-refused_repeats A F R repeats input text status (of_item m trees fault h e t s) = run_refused m trees fault h e t s
+pub refused_repeats : (order : CallOrder) (A : Answers) (F : Fails) (R : ResetFails) (repeats : ℕ) (input text : List ℕ) (status : Status)
+    → IsFirstRefusal input text status → IsRepeatOutput order A F R repeats input text status
+refused_repeats order A F R repeats input text status (of_model refusal h t s) = refused refusal h t s
+refused_repeats order A F R repeats input text status (of_item m trees fault h e t s) = run_refused m trees fault h e t s

@@ -10,6 +10,7 @@ use Rattle.pst_cli.specs.declared.answer.Status.{Status}
 use Rattle.pst_cli.specs.declared.answer.Status.TheVariants.{Lost}
 use Rattle.pst_cli.specs.declared.stream.Cut.{Cut}
 use Rattle.pst_cli.specs.declared.stream.Cut.TheVariants as cut
+use Rattle.pst_judge.specs.declared.by_order.CallOrder.{CallOrder}
 use Rattle.pst_model.specs.declared.model.Source.{Source}
 use Rattle.pst_rejudge.specs.StreamAnswers.{IsLineAnswer}
 use Rattle.pst_sexpr.specs.Writing.{WritesAll, WritesPart}
@@ -47,23 +48,23 @@ part_of_more two v = record {
   appended = v.appended;
 }
 
-module _ (input bytes : List ℕ) (m : Source) (trees : List Form) (holds : Holds input m trees) (stream before : Option (List ℕ))
+module _ (order : CallOrder) (input bytes : List ℕ) (m : Source) (trees : List Form) (holds : Holds input m trees) (stream before : Option (List ℕ))
     (known : stream ≡ Some bytes) where
-  pub whole_prints : {after : Option (List ℕ)} {broken : Bool} {status : Status} → IsWhole m stream before after broken status
-      → SendsOne (IsStreamOutput input bytes) before after broken status
+  pub whole_prints : {after : Option (List ℕ)} {broken : Bool} {status : Status} → IsWhole order m stream before after broken status
+      → SendsOne (IsStreamOutput order input bytes) before after broken status
   whole_prints {after} {broken} {status} w = record {
     text = answer_lines 1 w.answers;
     status = status;
     lawful = whole m trees w.answers holds
-        (subst (λ ls. AllZip (IsLineAnswer m) ls w.answers) (sym (w.whole bytes known)) w.answered) refl w.worst;
+        (subst (λ ls. AllZip (IsLineAnswer order m) ls w.answers) (sym (w.whole bytes known)) w.answered) refl w.worst;
     sent = inl (w.written, refl);
   }
 
   -- the first lines were written, and why the others were not judged
   cut_prints : {mid after : Option (List ℕ)} {mid_broken broken : Bool} {answer : Status} (why : Cut) (line : List ℕ) (status : Status)
-      → IsCutLine line status → (w : IsCutShort m stream before mid mid_broken why)
+      → IsCutLine line status → (w : IsCutShort order m stream before mid mid_broken why)
       → WritesAll before mid mid_broken (answer_lines 1 w.answers)
-      → Sends mid after broken answer line status → SendsOne (IsStreamOutput input bytes) before after broken answer
+      → Sends mid after broken answer line status → SendsOne (IsStreamOutput order input bytes) before after broken answer
   cut_prints why line status is w lines s = record {
     text = answer_lines 1 w.answers ++ line;
     status = status;
@@ -72,18 +73,18 @@ module _ (input bytes : List ℕ) (m : Source) (trees : List Form) (holds : Hold
   }
 
   pub unread_prints : {mid after : Option (List ℕ)} {mid_broken broken : Bool} {answer : Status} (line : List ℕ) (status : Status)
-      → IsCutLine line status → IsCutShort m stream before mid mid_broken cut.Unread
-      → Sends mid after broken answer line status → SendsOne (IsStreamOutput input bytes) before after broken answer
+      → IsCutLine line status → IsCutShort order m stream before mid mid_broken cut.Unread
+      → Sends mid after broken answer line status → SendsOne (IsStreamOutput order input bytes) before after broken answer
   unread_prints line status is w s = cut_prints cut.Unread line status is w w.written s
 
   pub no_memory_prints : {mid after : Option (List ℕ)} {mid_broken broken : Bool} {answer : Status} (line : List ℕ) (status : Status)
-      → IsCutLine line status → IsCutShort m stream before mid mid_broken cut.NoMemory
-      → Sends mid after broken answer line status → SendsOne (IsStreamOutput input bytes) before after broken answer
+      → IsCutLine line status → IsCutShort order m stream before mid mid_broken cut.NoMemory
+      → Sends mid after broken answer line status → SendsOne (IsStreamOutput order input bytes) before after broken answer
   no_memory_prints line status is w s = cut_prints cut.NoMemory line status is w w.written s
 
   -- a beginning of the first lines was written
-  pub unwritten_prints : {after : Option (List ℕ)} {broken : Bool} → IsCutShort m stream before after broken cut.Unwritten
-      → SendsOne (IsStreamOutput input bytes) before after broken Lost
+  pub unwritten_prints : {after : Option (List ℕ)} {broken : Bool} → IsCutShort order m stream before after broken cut.Unwritten
+      → SendsOne (IsStreamOutput order input bytes) before after broken Lost
   unwritten_prints w = record {
     text = answer_lines 1 w.answers ++ memory_line;
     status = Lost;

@@ -13,6 +13,7 @@ use Rattle.pst_cli.specs.declared.answer.Status.TheVariants.{Accepted}
 use Rattle.pst_cli.specs.declared.stream.Cut.{Cut}
 use Rattle.pst_cli.specs.declared.stream.Cut.TheVariants as cut
 use Rattle.pst_cli.specs.declared.stream.Written.{Written}
+use Rattle.pst_judge.specs.declared.by_order.CallOrder.{CallOrder}
 use Rattle.pst_rejudge.specs.declared.reading.ItemResult.{ItemResult}
 use Rattle.pst_model.specs.declared.model.Source.{Source}
 use Rattle.pst_sexpr.specs.Reading.{max_bytes}
@@ -74,12 +75,12 @@ worst_behind status (a ∷ js) bs = worst_behind (or_worse status (answer_status
 -- ---- how far a stream has been judged
 
 -- the lines that ended in what was read are answered, and the lines of the answers were written
-pub record HasCome (m : Source) (stream left before after : Option (List ℕ)) (broken : Bool) (kept : List ℕ) (written : Written) : Type 0 where
+pub record HasCome (order : CallOrder) (m : Source) (stream left before after : Option (List ℕ)) (broken : Bool) (kept : List ℕ) (written : Written) : Type 0 where
   pub bytes : List ℕ
   pub read : Consumes stream left bytes
   pub kept_line : kept ≡ take (suc max_bytes) (begun [] bytes)
   pub answers : List ItemResult
-  pub answered : AllZip (IsLineAnswer m) (ended [] bytes) answers
+  pub answered : AllZip (IsLineAnswer order m) (ended [] bytes) answers
   pub count : written.count ≡ length answers
   pub worst : written.status ≡ worst_status Accepted answers
   pub lines : WritesAll before after broken (answer_lines 1 answers)
@@ -124,10 +125,10 @@ part_of_lines before mid after mid_broken count js bs e w v =
       appended = Appends-trans before mid after (answer_lines 1 js) v.sent w.appended v.appended;
     }
 
-module _ (m : Source) (stream before : Option (List ℕ)) where
+module _ (order : CallOrder) (m : Source) (stream before : Option (List ℕ)) where
   -- nothing is read and nothing is written
   pub begins : (broken : Bool) (kept : List ℕ) (written : Written) → broken ≡ false → kept ≡ []
-      → written ≡ record { count = 0; status = Accepted } → HasCome m stream stream before before broken kept written
+      → written ≡ record { count = 0; status = Accepted } → HasCome order m stream stream before before broken kept written
   begins broken kept written e k w = record {
     bytes = [];
     read = Consumes-nil stream;
@@ -140,19 +141,19 @@ module _ (m : Source) (stream before : Option (List ℕ)) where
   }
 
   module _ (left mid : Option (List ℕ)) (mid_broken : Bool) (kept : List ℕ) (written : Written)
-      (come : HasCome m stream left before mid mid_broken kept written) where
+      (come : HasCome order m stream left before mid mid_broken kept written) where
     -- a block that is not the last was read, judged and written
     pub goes_on : (next after : Option (List ℕ)) (broken : Bool) (new_kept : List ℕ) (answers : List ItemResult) (new : Written)
-        → IsMiddleBlock m left next (begun [] come.bytes) new_kept answers
+        → IsMiddleBlock order m left next (begun [] come.bytes) new_kept answers
         → AreCounted written answers new → WritesAll mid after broken (answer_lines (written.count + 1) answers)
-        → HasCome m stream next before after broken new_kept new
+        → HasCome order m stream next before after broken new_kept new
     goes_on next after broken new_kept answers new block counted lines = record {
       bytes = come.bytes ++ block.bytes;
       read = Consumes-trans stream left next come.bytes block.bytes come.read block.read;
       kept_line = block.kept_line ∙ ap (take (suc max_bytes)) (sym (begun_behind [] come.bytes block.bytes));
       answers = come.answers ++ answers;
-      answered = subst (λ ls. AllZip (IsLineAnswer m) ls (come.answers ++ answers)) (sym (ended_behind [] come.bytes block.bytes))
-          (AllZip-append (IsLineAnswer m) (ended [] come.bytes) (ended (begun [] come.bytes) block.bytes) come.answers answers come.answered block.answered);
+      answered = subst (λ ls. AllZip (IsLineAnswer order m) ls (come.answers ++ answers)) (sym (ended_behind [] come.bytes block.bytes))
+          (AllZip-append (IsLineAnswer order m) (ended [] come.bytes) (ended (begun [] come.bytes) block.bytes) come.answers answers come.answered block.answered);
       count = counted.count ∙ ap (λ n. n + length answers) come.count ∙ sym (length-append come.answers answers);
       worst = counted.status ∙ ap (λ s. worst_status s answers) come.worst ∙ sym (worst_behind Accepted come.answers answers);
       lines = more_lines before mid after mid_broken broken written.count come.answers answers come.count come.lines lines;
@@ -160,16 +161,16 @@ module _ (m : Source) (stream before : Option (List ℕ)) where
 
     -- the last block was read, judged and written
     pub ends : (next after : Option (List ℕ)) (broken : Bool) (new_kept : List ℕ) (answers : List ItemResult) (new : Written)
-        → IsLastBlock m left next (begun [] come.bytes) new_kept answers
+        → IsLastBlock order m left next (begun [] come.bytes) new_kept answers
         → AreCounted written answers new → WritesAll mid after broken (answer_lines (written.count + 1) answers)
-        → IsWhole m stream before after broken new.status
+        → IsWhole order m stream before after broken new.status
     ends next after broken new_kept answers new block counted lines = record {
       lines = lines_of come.bytes;
       whole = λ bs e. elim (left_of stream left come.bytes bs come.read e) [
         | is_left ys known same ↦ ap lines_of (same ∙ ap (λ l. come.bytes ++ l) (nothing_left left ys block.rest known) ∙ append-nil come.bytes)
       ];
       answers = come.answers ++ answers;
-      answered = AllZip-append (IsLineAnswer m) (ended [] come.bytes) (last_line (begun [] come.bytes)) come.answers answers come.answered block.answered;
+      answered = AllZip-append (IsLineAnswer order m) (ended [] come.bytes) (last_line (begun [] come.bytes)) come.answers answers come.answered block.answered;
       written = more_lines before mid after mid_broken broken written.count come.answers answers come.count come.lines lines;
       worst = counted.status ∙ ap (λ s. worst_status s answers) come.worst ∙ sym (worst_behind Accepted come.answers answers);
     }
@@ -180,30 +181,30 @@ module _ (m : Source) (stream before : Option (List ℕ)) where
     ]
 
     -- no block was had
-    pub stops : (why : Cut) → IsWrittenTo before mid mid_broken (answer_lines 1 come.answers) why → IsCutShort m stream before mid mid_broken why
+    pub stops : (why : Cut) → IsWrittenTo before mid mid_broken (answer_lines 1 come.answers) why → IsCutShort order m stream before mid mid_broken why
     stops why w = record { first = ended [] come.bytes; front = front_of; answers = come.answers; answered = come.answered; written = w }
 
-    pub stops_by : (f : StreamFault) → IsCutShort m stream before mid mid_broken (cut_of f)
+    pub stops_by : (f : StreamFault) → IsCutShort order m stream before mid mid_broken (cut_of f)
     stops_by fault.Unread = stops cut.Unread come.lines
     stops_by fault.NoMemory = stops cut.NoMemory come.lines
 
     -- the lines that end in one more block
     abbrev lines_with : (next : Option (List ℕ)) (new_kept : List ℕ) (is_last : Bool) (answers : List ItemResult)
-        → IsBlock m left next (begun [] come.bytes) new_kept is_last answers → List (List ℕ)
+        → IsBlock order m left next (begun [] come.bytes) new_kept is_last answers → List (List ℕ)
     lines_with next new_kept true answers block = ended [] come.bytes ++ last_line (begun [] come.bytes)
     lines_with next new_kept false answers block = ended [] (come.bytes ++ block.bytes)
 
     answered_with : (next : Option (List ℕ)) (new_kept : List ℕ) (is_last : Bool) (answers : List ItemResult)
-        (block : IsBlock m left next (begun [] come.bytes) new_kept is_last answers)
-        → AllZip (IsLineAnswer m) (lines_with next new_kept is_last answers block) (come.answers ++ answers)
+        (block : IsBlock order m left next (begun [] come.bytes) new_kept is_last answers)
+        → AllZip (IsLineAnswer order m) (lines_with next new_kept is_last answers block) (come.answers ++ answers)
     answered_with next new_kept true answers block =
-        AllZip-append (IsLineAnswer m) (ended [] come.bytes) (last_line (begun [] come.bytes)) come.answers answers come.answered block.answered
+        AllZip-append (IsLineAnswer order m) (ended [] come.bytes) (last_line (begun [] come.bytes)) come.answers answers come.answered block.answered
     answered_with next new_kept false answers block =
-        subst (λ ls. AllZip (IsLineAnswer m) ls (come.answers ++ answers)) (sym (ended_behind [] come.bytes block.bytes))
-        (AllZip-append (IsLineAnswer m) (ended [] come.bytes) (ended (begun [] come.bytes) block.bytes) come.answers answers come.answered block.answered)
+        subst (λ ls. AllZip (IsLineAnswer order m) ls (come.answers ++ answers)) (sym (ended_behind [] come.bytes block.bytes))
+        (AllZip-append (IsLineAnswer order m) (ended [] come.bytes) (ended (begun [] come.bytes) block.bytes) come.answers answers come.answered block.answered)
 
     front_with : (next : Option (List ℕ)) (new_kept : List ℕ) (is_last : Bool) (answers : List ItemResult)
-        (block : IsBlock m left next (begun [] come.bytes) new_kept is_last answers) (bs : List ℕ) → stream ≡ Some bs
+        (block : IsBlock order m left next (begun [] come.bytes) new_kept is_last answers) (bs : List ℕ) → stream ≡ Some bs
         → (rest : List (List ℕ)) × (lines_of bs ≡ lines_with next new_kept is_last answers block ++ rest)
     front_with next new_kept true answers block bs e = elim (left_of stream left come.bytes bs come.read e) [
       | is_left ys known same ↦ (
@@ -219,9 +220,9 @@ module _ (m : Source) (stream before : Option (List ℕ)) where
 
     -- a block was read and judged, and not written
     pub stops_in : (next : Option (List ℕ)) (new_kept : List ℕ) (after : Option (List ℕ)) (broken : Bool) (is_last : Bool) (answers : List ItemResult) (why : Cut)
-        → IsBlock m left next (begun [] come.bytes) new_kept is_last answers
+        → IsBlock order m left next (begun [] come.bytes) new_kept is_last answers
         → IsUnwritten mid after broken (answer_lines (written.count + 1) answers) why
-        → IsCutShort m stream before after broken why
+        → IsCutShort order m stream before after broken why
     stops_in next new_kept after broken is_last answers cut.Unread block w = absurd w
     stops_in next new_kept after broken is_last answers cut.NoMemory block w = record {
       first = ended [] come.bytes;

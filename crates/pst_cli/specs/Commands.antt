@@ -8,7 +8,7 @@ use Rattle.pst_cli.specs.KeepingOn.{HoldsAnswers, IsShownKeepingOn}
 use Rattle.pst_cli.specs.Kept.{HoldsJudged}
 use Rattle.pst_cli.specs.Output.{IsCheckOutput, IsShownOutput}
 use Rattle.pst_cli.specs.RepeatOutput.{IsRepeatOutput}
-use Rattle.pst_cli.specs.RunOutput.{IsRunOutput}
+use Rattle.pst_cli.specs.RunOutput.{IsRunOutputBy}
 use Rattle.pst_cli.specs.declared.answer.OutputForm.{OutputForm}
 use Rattle.pst_cli.specs.declared.answer.OutputForm.TheVariants as form
 use Rattle.pst_cli.specs.declared.answer.Status.{Status}
@@ -17,6 +17,7 @@ use Rattle.pst_cli.specs.declared.judge.JudgeOptions.{JudgeOptions}
 use Rattle.pst_cli.specs.declared.judge.Judging.{Judging}
 use Rattle.pst_cli.specs.declared.judge.Judging.TheVariants as judging
 use Rattle.pst_cli.specs.declared.lines.Shown.{Shown}
+use Rattle.pst_judge.specs.declared.by_order.CallOrder.{CallOrder}
 use Rattle.pst_rejudge.specs.Parts.{joined}
 use Rattle.pst_runs.specs.Lawful.{AreLawful}
 use Rattle.pst_system.specs.Kept.{Answers, Fails, ResetFails}
@@ -36,42 +37,46 @@ check_answer form.Json notices = λ input. IsCheckJson input notices
 -- ---- `pst judge`
 
 -- lines up to the first refused item; lines of all items; or the objects of all items
-abbrev pub judge_answer : OutputForm → (keeps_going : Bool) → Shown → OutputOf
-judge_answer form.Text false which = IsShownOutput which
-judge_answer form.Text true which = IsShownKeepingOn which
-judge_answer form.Json keeps_going which = IsJudgeJson which
+abbrev pub judge_answer : CallOrder → OutputForm → (keeps_going : Bool) → Shown → OutputOf
+judge_answer order form.Text false which = IsShownOutput order which
+judge_answer order form.Text true which = IsShownKeepingOn order which
+judge_answer order form.Json keeps_going which = IsJudgeJson order which
 
 -- of these the last two
-abbrev pub each_answer : OutputForm → Shown → OutputOf
-each_answer form.Text which = IsShownKeepingOn which
-each_answer form.Json which = IsJudgeJson which
+abbrev pub each_answer : CallOrder → OutputForm → Shown → OutputOf
+each_answer order form.Text which = IsShownKeepingOn order which
+each_answer order form.Json which = IsJudgeJson order which
 
 abbrev pub IsJudgeAnswer : JudgeOptions → OutputOf
-IsJudgeAnswer options = judge_answer options.form options.keeps_going options.shown
+IsJudgeAnswer options = judge_answer options.order options.form options.keeps_going options.shown
 
--- what was judged is what the input holds; what is kept of the runs may be judged
-abbrev pub HoldsJudging : List ℕ → Judging → Type 0
-HoldsJudging input (judging.UpToRefusal file) =
-    HoldsJudged false input file.compiled (joined file.runs.items) file.judged.items
+-- what was judged by an order is what the input holds; what is kept of the runs may be judged
+abbrev pub HoldsJudging : CallOrder → List ℕ → Judging → Type 0
+HoldsJudging order input (judging.UpToRefusal file) =
+    HoldsJudged order false input file.compiled (joined file.runs.items) file.judged.items
     × All (λ runs. AreLawful file.compiled runs.items) file.runs.items
-HoldsJudging input (judging.Each answered) =
-    HoldsAnswers input answered.file.compiled answered.file.trees.items answered.answers.items
+HoldsJudging order input (judging.Each answered) =
+    HoldsAnswers order input answered.file.compiled answered.file.trees.items answered.answers.items
+
+-- what was judged by some order is what the input holds
+abbrev pub IsJudgedInput : List ℕ → Judging → Type 0
+IsJudgedInput input of = (order : CallOrder) × HoldsJudging order input of
 
 -- ---- `pst run`
 
 -- each case driven once; or as often as is said
-abbrev pub times_answer : Option ℕ → Answers → Fails → ResetFails → OutputOf
-times_answer None answers fails reset_fails = IsRunOutput answers fails reset_fails
-times_answer (Some zero) answers fails reset_fails = IsRunOutput answers fails reset_fails
-times_answer (Some (suc n)) answers fails reset_fails = IsRepeatOutput answers fails reset_fails (suc n)
+abbrev pub times_answer : CallOrder → Option ℕ → Answers → Fails → ResetFails → OutputOf
+times_answer order None answers fails reset_fails = IsRunOutputBy order answers fails reset_fails
+times_answer order (Some zero) answers fails reset_fails = IsRunOutputBy order answers fails reset_fails
+times_answer order (Some (suc n)) answers fails reset_fails = IsRepeatOutput order answers fails reset_fails (suc n)
 
 -- of the objects nothing is said
-abbrev pub drive_answer : OutputForm → Option ℕ → Answers → Fails → ResetFails → OutputOf
-drive_answer form.Text repeats answers fails reset_fails = times_answer repeats answers fails reset_fails
-drive_answer form.Json repeats answers fails reset_fails = λ input. Unsaid
+abbrev pub drive_answer : CallOrder → OutputForm → Option ℕ → Answers → Fails → ResetFails → OutputOf
+drive_answer order form.Text repeats answers fails reset_fails = times_answer order repeats answers fails reset_fails
+drive_answer order form.Json repeats answers fails reset_fails = λ input. Unsaid
 
 abbrev pub IsDriveAnswer : DriveOptions → Answers → Fails → ResetFails → OutputOf
-IsDriveAnswer options = drive_answer options.form options.repeats
+IsDriveAnswer options = drive_answer options.order options.form options.repeats
 
 -- ---- `pst campaign`
 

@@ -4,6 +4,7 @@ use Rattle.std.specs.Prelude.{ℕ, ◌+◌, if◌then◌else◌, List, [], ◌�
 use Rattle.pst_cli.specs.ChosenItem.{IsOfItem}
 use Rattle.pst_cli.specs.Output.{IsOutput, is_good}
 use Rattle.pst_cli.specs.declared.answer.Status.{Status}
+use Rattle.pst_judge.specs.declared.by_order.CallOrder.{CallOrder}
 use Rattle.pst_judge.specs.declared.judgement.Judged.{Judged}
 
 -- the number of the first item that is neither explained nor valid, where the first of these has this number;
@@ -23,5 +24,5 @@ drawn_number None js = first_failed 1 js
 abbrev pub IsGraphOf : Option ℕ → List Judged → List ℕ → Status → Type 0
 IsGraphOf item js text status = IsOfItem (drawn_number item js) js text status
 
-abbrev pub IsGraphOutput : List ℕ → Option ℕ → List ℕ → Status → Type 0
-IsGraphOutput input item text status = IsOutput (IsGraphOf item) input text status
+abbrev pub IsGraphOutput : CallOrder → List ℕ → Option ℕ → List ℕ → Status → Type 0
+IsGraphOutput order input item text status = IsOutput order (IsGraphOf item) input text status

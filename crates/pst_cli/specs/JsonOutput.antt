@@ -7,6 +7,7 @@ use Rattle.pst_cli.specs.declared.lines.Shown.{Shown}
 use Rattle.pst_cli.specs.declared.lines.Shown.TheVariants as shown
 use Rattle.pst_cli.specs.declared.answer.Status.{Status}
 use Rattle.pst_cli.specs.declared.answer.Status.TheVariants.{Accepted, Refused}
+use Rattle.pst_judge.specs.declared.by_order.CallOrder.{CallOrder}
 use Rattle.pst_rejudge.specs.Answers.{IsAnswer}
 use Rattle.pst_rejudge.specs.declared.reading.ItemResult.{ItemResult}
 use Rattle.pst_rejudge.specs.declared.reading.ItemResult.TheVariants as answer
@@ -44,13 +45,13 @@ shown_objects which number (a ∷ answers) = shown_object which number a ++ show
 
 -- the objects of the items, each with its number from 1, and the worst of the statuses of all items; or the object of the
 -- model's refusal
-pub data IsJudgeJson (which : Shown) (input text : List ℕ) (status : Status) : Type 0 where
+pub data IsJudgeJson (order : CallOrder) (which : Shown) (input text : List ℕ) (status : Status) : Type 0 where
   answered : (m : Source) (trees : List Form) (answers : List ItemResult) → Holds input m trees
-      → AllZip (IsAnswer m) (items_of trees) answers
+      → AllZip (IsAnswer order m) (items_of trees) answers
       → text ≡ shown_objects which 1 answers → status ≡ worst_status Accepted answers
-      → IsJudgeJson which input text status
+      → IsJudgeJson order which input text status
   refused : (refusal : Refusal) → IsRefusal input refusal → text ≡ refusal_object refusal → status ≡ Refused
-      → IsJudgeJson which input text status
+      → IsJudgeJson order which input text status
 
 -- ---- `pst check --format json`
 

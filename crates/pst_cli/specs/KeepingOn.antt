@@ -13,6 +13,8 @@ use Rattle.pst_cli.specs.declared.answer.Status.TheVariants.{Accepted, Refused}
 use Rattle.pst_rejudge.specs.Answers.{IsAnswer}
 use Rattle.pst_rejudge.specs.declared.reading.ItemResult.{ItemResult}
 use Rattle.pst_rejudge.specs.declared.reading.ItemResult.TheVariants as answer
+use Rattle.pst_judge.specs.declared.by_order.CallOrder.{CallOrder}
+use Rattle.pst_judge.specs.declared.by_order.CallOrder.TheVariants.{Any}
 use Rattle.pst_judge.specs.declared.judgement.Judged.{Judged}
 use Rattle.pst_typing.specs.Loading.{Holds, items_of, IsRefusal}
 use Rattle.pst_typing.specs.declared.loading.Refusal.{Refusal}
@@ -21,9 +23,10 @@ use Rattle.pst_runs.specs.Items.{runs_of}
 use Rattle.pst_sexpr.specs.declared.form.Form.{Form}
 
 -- the input holds a model and these trees, and these are the answers to the items among them, in their order
-pub record HoldsAnswers (input : List ℕ) (m : Source) (trees : List Form) (answers : List ItemResult) : Type 0 where
+pub record HoldsAnswers (order : CallOrder) (input : List ℕ) (m : Source) (trees : List Form) (answers : List ItemResult)
+    : Type 0 where
   pub holds : Holds input m trees
-  pub answered : AllZip (IsAnswer m) (items_of trees) answers
+  pub answered : AllZip (IsAnswer order m) (items_of trees) answers
 
 -- `NUMBER VERDICT`, or `refused run NUMBER command C KIND`
 abbrev pub answer_line : ℕ → ItemResult → List ℕ
@@ -68,22 +71,22 @@ worst_status so_far (a ∷ answers) = worst_status (or_worse so_far (answer_stat
 
 -- the lines of the items, of all or with `--failures` of some: the verdict or the refusal of each; or the
 -- refusal of the model. The status is that of all items.
-pub data IsShownKeepingOn (which : Shown) (input text : List ℕ) (status : Status) : Type 0 where
+pub data IsShownKeepingOn (order : CallOrder) (which : Shown) (input text : List ℕ) (status : Status) : Type 0 where
   answered : (m : Source) (trees : List Form) (answers : List ItemResult) → Holds input m trees
-      → AllZip (IsAnswer m) (items_of trees) answers
+      → AllZip (IsAnswer order m) (items_of trees) answers
       → text ≡ shown_answer_lines which answers → status ≡ worst_status Accepted answers
-      → IsShownKeepingOn which input text status
+      → IsShownKeepingOn order which input text status
   refused : (refusal : Refusal) → IsRefusal input refusal → text ≡ refusal_line refusal → status ≡ Refused
-      → IsShownKeepingOn which input text status
+      → IsShownKeepingOn order which input text status
 
 -- a line for each item, from 1: its verdict or its refusal; or the refusal of the model
 abbrev pub IsKeepingOnOutput : List ℕ → List ℕ → Status → Type 0
-IsKeepingOnOutput input text status = IsShownKeepingOn shown.All input text status
+IsKeepingOnOutput input text status = IsShownKeepingOn Any shown.All input text status
 
 -- where no item is refused, the lines and the status of `pst judge` are those with `--keep-going`
 abbrev pub KeepsJudgements : Type 0
 KeepsJudgements =
-    (input : List ℕ) (m : Source) (trees : List Form) (runs : List Run) (js : List Judged)
+    (order : CallOrder) (input : List ℕ) (m : Source) (trees : List Form) (runs : List Run) (js : List Judged)
     → Holds input m trees
-    → runs_of m (items_of trees) ≡ Ok runs → AreJudged m runs js
-    → IsKeepingOnOutput input (item_lines 1 js) (status_of js)
+    → runs_of m (items_of trees) ≡ Ok runs → AreJudged order m runs js
+    → IsShownKeepingOn order shown.All input (item_lines 1 js) (status_of js)

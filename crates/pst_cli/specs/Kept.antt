@@ -4,6 +4,7 @@ use Rattle.pst_case.specs.declared.history.Run.{Run}
 use Rattle.pst_cli.specs.Output.{AreJudged, HoldsRuns}
 use Rattle.pst_cli.specs.declared.input.Keep.{Keep}
 use Rattle.pst_cli.specs.declared.input.Keep.TheVariants as keep
+use Rattle.pst_judge.specs.declared.by_order.CallOrder.{CallOrder}
 use Rattle.pst_judge.specs.declared.judgement.Judged.{Judged}
 use Rattle.pst_model.specs.declared.model.Source.{Source}
 use Rattle.pst_runs.specs.Lawful.{AreLawful}
@@ -15,10 +16,11 @@ keeps_all keep.ForWarnings = false
 keeps_all keep.Nothing = false
 
 -- the input holds runs that are judged so; what is kept of them may be judged, and it is all where all are to be kept
-pub record HoldsJudged (all : Bool) (input : List ℕ) (m : Source) (kept : List Run) (judgements : List Judged)
+pub record HoldsJudged
+    (order : CallOrder) (all : Bool) (input : List ℕ) (m : Source) (kept : List Run) (judgements : List Judged)
     : Type 0 where
   pub runs : List Run
   pub holds : HoldsRuns input m runs
-  pub judged : AreJudged m runs judgements
+  pub judged : AreJudged order m runs judgements
   pub lawful : AreLawful m kept
   pub are_kept : all ≡ true → kept ≡ runs

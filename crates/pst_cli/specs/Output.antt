@@ -10,7 +10,9 @@ use Rattle.pst_cli.specs.declared.lines.Shown.TheVariants as shown
 use Rattle.pst_cli.specs.declared.answer.Status.{Status}
 use Rattle.pst_cli.specs.declared.answer.Status.TheVariants.{Accepted, Failed, Refused}
 use Rattle.pst_judge.specs.JudgedText.{judged_text}
-use Rattle.pst_judge.specs.Judgement.{IsJudgement}
+use Rattle.pst_judge.specs.Judgement.{IsJudgementBy}
+use Rattle.pst_judge.specs.declared.by_order.CallOrder.{CallOrder}
+use Rattle.pst_judge.specs.declared.by_order.CallOrder.TheVariants.{Any}
 use Rattle.pst_judge.specs.declared.judgement.Judged.{Judged}
 use Rattle.pst_judge.specs.declared.judgement.Judged.TheVariants as kind
 use Rattle.pst_judge.specs.declared.judgement.Verdict.{Verdict}
@@ -44,12 +46,12 @@ pub record HoldsRuns (input : List ℕ) (m : Source) (runs : List Run) : Type 0 
 abbrev pub run_line : RunFault → List ℕ
 run_line fault = codes "refused run " ++ runs.text_of fault ++ line_end
 
--- each run is judged so, in order
-abbrev pub AreJudged : Source → List Run → List Judged → Type 0
-AreJudged m [] [] = Unit {0}
-AreJudged m [] (j ∷ js) = ⊥
-AreJudged m (run ∷ runs) [] = ⊥
-AreJudged m (run ∷ runs) (j ∷ js) = IsJudgement m run j × AreJudged m runs js
+-- each run is judged so by an order of the calls, one after another
+abbrev pub AreJudged : CallOrder → Source → List Run → List Judged → Type 0
+AreJudged order m [] [] = Unit {0}
+AreJudged order m [] (j ∷ js) = ⊥
+AreJudged order m (run ∷ runs) [] = ⊥
+AreJudged order m (run ∷ runs) (j ∷ js) = IsJudgementBy order m run j × AreJudged order m runs js
 
 -- `NUMBER VERDICT`
 abbrev pub item_line : ℕ → Judged → List ℕ
@@ -87,11 +89,11 @@ pub data IsFirstRefusal (input text : List ℕ) (status : Status) : Type 0 where
       → text ≡ run_line fault → status ≡ Refused → IsFirstRefusal input text status
 
 -- what is said of the judgements on all items; or the first refusal
-pub data IsOutput (OfJudged : List Judged → List ℕ → Status → Type 0) (input text : List ℕ) (status : Status)
-    : Type 0 where
-  judged : (m : Source) (runs : List Run) (js : List Judged) → HoldsRuns input m runs → AreJudged m runs js
-      → OfJudged js text status → IsOutput OfJudged input text status
-  refused : IsFirstRefusal input text status → IsOutput OfJudged input text status
+pub data IsOutput (order : CallOrder) (OfJudged : List Judged → List ℕ → Status → Type 0) (input text : List ℕ)
+    (status : Status) : Type 0 where
+  judged : (m : Source) (runs : List Run) (js : List Judged) → HoldsRuns input m runs → AreJudged order m runs js
+      → OfJudged js text status → IsOutput order OfJudged input text status
+  refused : IsFirstRefusal input text status → IsOutput order OfJudged input text status
 
 -- ---- `pst judge`
 
@@ -100,7 +102,7 @@ abbrev pub AreItemLines : List Judged → List ℕ → Status → Type 0
 AreItemLines js text status = (text ≡ item_lines 1 js) × (status ≡ status_of js)
 
 abbrev pub IsJudgeOutput : List ℕ → List ℕ → Status → Type 0
-IsJudgeOutput input text status = IsOutput AreItemLines input text status
+IsJudgeOutput input text status = IsOutput Any AreItemLines input text status
 
 -- ---- `pst judge --failures`
 
@@ -122,6 +124,6 @@ shown_lines shown.Failures js = failure_lines 1 js
 abbrev pub AreShownLines : Shown → List Judged → List ℕ → Status → Type 0
 AreShownLines which js text status = (text ≡ shown_lines which js) × (status ≡ status_of js)
 
--- what `pst judge` writes, and with `--failures`; of all items it is `IsJudgeOutput`
-abbrev pub IsShownOutput : Shown → List ℕ → List ℕ → Status → Type 0
-IsShownOutput which input text status = IsOutput (AreShownLines which) input text status
+-- what `pst judge` writes, and with `--failures`; of all items it is in any order `IsJudgeOutput`
+abbrev pub IsShownOutput : CallOrder → Shown → List ℕ → List ℕ → Status → Type 0
+IsShownOutput order which input text status = IsOutput order (AreShownLines which) input text status

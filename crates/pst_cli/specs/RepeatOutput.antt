@@ -11,6 +11,7 @@ use Rattle.pst_cli.specs.declared.answer.Output.{Output}
 use Rattle.pst_cli.specs.declared.answer.Status.{Status}
 use Rattle.pst_cli.specs.declared.answer.Status.TheVariants.{Accepted, Failed, Refused, Lost}
 use Rattle.pst_judge.specs.Validity.{IsValid, IsWhy}
+use Rattle.pst_judge.specs.declared.by_order.CallOrder.{CallOrder}
 use Rattle.pst_judge.specs.declared.judgement.Judged.TheVariants as kind
 use Rattle.pst_judge.specs.declared.validated.Why.{Why}
 use Rattle.pst_model.specs.declared.model.Source.{Source}
@@ -48,12 +49,12 @@ abbrev pub drives_line : (number drives failed : ℕ) → List ℕ
 drives_line number drives failed =
     decimal number ++ codes " drives " ++ decimal drives ++ codes " failed " ++ decimal failed ++ line_end
 
-module _ (m : Source) (answers : Answers) (fails : Fails) (reset_fails : ResetFails) where
+module _ (order : CallOrder) (m : Source) (answers : Answers) (fails : Fails) (reset_fails : ResetFails) where
   -- each of the drives of a case is reported as `pst run` reports it, and none is lost
   abbrev pub AreDriven : (number : ℕ) → Case → List Output → Type 0
   AreDriven number c [] = Unit {0}
   AreDriven number c (o ∷ os) =
-      IsReported m answers fails reset_fails number c o.text.items o.status × (o.status ≢ Lost) × AreDriven number c os
+      IsReported order m answers fails reset_fails number c o.text.items o.status × (o.status ≢ Lost) × AreDriven number c os
 
   -- A valid case was driven as often as it was to be: the report of the first drive that failed, or else of the last one, and how
   -- many failed. Or the case is not valid, for this reason. Or a drive was lost: its report.
@@ -64,7 +65,7 @@ module _ (m : Source) (answers : Answers) (fails : Fails) (reset_fails : ResetFa
         → IsRepeated repeats number c text status
     invalid : (why : Why) → IsWhy m c why → text ≡ item_line number (kind.Invalid why) → status ≡ Failed
         → IsRepeated repeats number c text status
-    lost : IsReported m answers fails reset_fails number c text status → status ≡ Lost
+    lost : IsReported order m answers fails reset_fails number c text status → status ≡ Lost
         → IsRepeated repeats number c text status
 
   -- the reports of the items, the first of which has the number
@@ -82,12 +83,12 @@ module _ (m : Source) (answers : Answers) (fails : Fails) (reset_fails : ResetFa
     pub lines : text ≡ joined reports
     pub worst : status ≡ worst_of Accepted reports
 
-module _ (answers : Answers) (fails : Fails) (reset_fails : ResetFails) where
+module _ (order : CallOrder) (answers : Answers) (fails : Fails) (reset_fails : ResetFails) where
   -- the report of each item, from 1, and the worst of their statuses; or the first refusal, that of the runs being the last
   pub data IsRepeatOutput (repeats : ℕ) (input text : List ℕ) (status : Status) : Type 0 where
     reported : (m : Source) (trees : List Form) (runs : List Run) → Holds input m trees
         → runs_of m (items_of trees) ≡ Ok runs
-        → ReportsAll m answers fails reset_fails repeats runs text status
+        → ReportsAll order m answers fails reset_fails repeats runs text status
         → IsRepeatOutput repeats input text status
     run_refused : (m : Source) (trees : List Form) (fault : RunFault) → Holds input m trees
         → runs_of m (items_of trees) ≡ Err fault → text ≡ run_line fault → status ≡ Refused

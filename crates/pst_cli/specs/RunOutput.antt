@@ -1,7 +1,8 @@
 -- The output of `pst run`: a text and a status, for an input and the system on which its cases are driven.
-use Rattle.std.specs.Prelude.{◌≡◌, ℕ, ◌+◌, if◌then◌else◌, true, List, [], ◌∷◌, ◌++◌, Ok, Err, Some, codes, decimal}
+use Rattle.std.specs.Prelude.{◌≡◌, ℕ, ◌+◌, if◌then◌else◌, true, List, [], ◌∷◌, ◌++◌, Ok, Err, Some, None, codes, decimal}
 use Rattle.pst_case.specs.Matches.{matches}
 use Rattle.pst_case.specs.OfModel.{OfModel}
+use Rattle.pst_case.specs.Times.{AreTimed}
 use Rattle.pst_case.specs.declared.case.Case.{Case}
 use Rattle.pst_case.specs.declared.history.History.{History}
 use Rattle.pst_case.specs.declared.history.Run.{Run}
@@ -13,8 +14,10 @@ use Rattle.pst_cli.specs.declared.answer.Status.TheVariants.{Accepted, Failed, R
 use Rattle.pst_driver.specs.Driven.{IsDriven, IsDriveFault}
 use Rattle.pst_driver.specs.FaultName.{fault_name}
 use Rattle.pst_driver.specs.declared.driving.DriveFault.{DriveFault}
-use Rattle.pst_judge.specs.Judgement.{IsJudgement}
+use Rattle.pst_judge.specs.Judgement.{IsJudgementBy}
 use Rattle.pst_judge.specs.Validity.{IsValid, IsWhy}
+use Rattle.pst_judge.specs.declared.by_order.CallOrder.{CallOrder}
+use Rattle.pst_judge.specs.declared.by_order.CallOrder.TheVariants.{Any, Time}
 use Rattle.pst_judge.specs.declared.judgement.Judged.{Judged}
 use Rattle.pst_judge.specs.declared.judgement.Judged.TheVariants as kind
 use Rattle.pst_judge.specs.declared.validated.Why.{Why}
@@ -37,9 +40,9 @@ abbrev pub status_of_one : Judged → Status
 status_of_one j = if is_good j then Accepted else Failed
 
 -- the run as a tree on one line, and the line of the verdict on it
-pub record ReportsRun (m : Source) (number : ℕ) (run : Run) (text : List ℕ) (status : Status) : Type 0 where
+pub record ReportsRun (order : CallOrder) (m : Source) (number : ℕ) (run : Run) (text : List ℕ) (status : Status) : Type 0 where
   pub judged : Judged
-  pub judgement : IsJudgement m run judged
+  pub judgement : IsJudgementBy order m run judged
   pub lines : text ≡ line_of (run_form m run) ++ item_line number judged
   pub ending : status ≡ status_of_one judged
 
@@ -47,14 +50,19 @@ pub record ReportsRun (m : Source) (number : ℕ) (run : Run) (text : List ℕ) 
 abbrev pub run_with : OfModel → History → Run
 run_with v h = record { shaped = v; history = Some h }
 
-module _ (m : Source) (answers : Answers) (fails : Fails) (reset_fails : ResetFails) where
+-- in the order of times the calls have times, and in any order none are recorded
+abbrev pub IsTimedBy : CallOrder → History → Type 0
+IsTimedBy Any h = h.times ≡ None
+IsTimedBy Time h = AreTimed h
+
+module _ (order : CallOrder) (m : Source) (answers : Answers) (fails : Fails) (reset_fails : ResetFails) where
   -- A case is reported in one of three ways:
   -- it is valid and was driven on the system, and this is the run with the verdict on it;
   -- it is not valid, for this reason;
   -- it is valid and could not be driven, for this reason.
   pub data IsReported (number : ℕ) (c : Case) (text : List ℕ) (status : Status) : Type 0 where
-    driven : IsValid m c → (h : History) → matches m c h ≡ true → IsDriven m answers fails c h
-        → ReportsRun m number (run_with (record { model = m; case = c }) h) text status
+    driven : IsValid m c → (h : History) → matches m c h ≡ true → IsDriven m answers fails c h → IsTimedBy order h
+        → ReportsRun order m number (run_with (record { model = m; case = c }) h) text status
         → IsReported number c text status
     invalid : (why : Why) → IsWhy m c why → text ≡ item_line number (kind.Invalid why) → status ≡ Failed
         → IsReported number c text status
@@ -71,15 +79,19 @@ module _ (m : Source) (answers : Answers) (fails : Fails) (reset_fails : ResetFa
         → AreReported (number + 1) (or_worse so_far ending) runs text status
         → AreReported number so_far (run ∷ runs) (lines ++ text) status
 
-module _ (answers : Answers) (fails : Fails) (reset_fails : ResetFails) where
+module _ (order : CallOrder) (answers : Answers) (fails : Fails) (reset_fails : ResetFails) where
   -- the report of each item, from 1; or the first refusal, that of the runs being the last
-  pub data IsRunOutput (input text : List ℕ) (status : Status) : Type 0 where
+  pub data IsRunOutputBy (input text : List ℕ) (status : Status) : Type 0 where
     reported : (m : Source) (trees : List Form) (runs : List Run) → Holds input m trees
         → runs_of m (items_of trees) ≡ Ok runs
-        → AreReported m answers fails reset_fails 1 Accepted runs text status
-        → IsRunOutput input text status
+        → AreReported order m answers fails reset_fails 1 Accepted runs text status
+        → IsRunOutputBy input text status
     run_refused : (m : Source) (trees : List Form) (fault : RunFault) → Holds input m trees
         → runs_of m (items_of trees) ≡ Err fault → text ≡ run_line fault → status ≡ Refused
-        → IsRunOutput input text status
+        → IsRunOutputBy input text status
     refused : (refusal : Refusal) → IsRefusal input refusal → text ≡ refusal_line refusal → status ≡ Refused
-        → IsRunOutput input text status
+        → IsRunOutputBy input text status
+
+-- what `pst run` writes where all interleavings may explain a run
+abbrev pub IsRunOutput : Answers → Fails → ResetFails → List ℕ → List ℕ → Status → Type 0
+IsRunOutput answers fails reset_fails input text status = IsRunOutputBy Any answers fails reset_fails input text status

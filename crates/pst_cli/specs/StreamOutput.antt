@@ -2,10 +2,12 @@
 use Rattle.std.specs.Prelude.{◌≡◌, ◌⊎◌, ℕ, List, ◌++◌, codes}
 use Rattle.std.specs.List.{AllZip}
 use Rattle.pst_cli.specs.Head.{refusal_line, line_end}
-use Rattle.pst_cli.specs.KeepingOn.{IsKeepingOnOutput, answer_lines, worst_status}
+use Rattle.pst_cli.specs.KeepingOn.{IsShownKeepingOn, answer_lines, worst_status}
 use Rattle.pst_cli.specs.Sending.{memory_line}
 use Rattle.pst_cli.specs.declared.answer.Status.{Status}
+use Rattle.pst_cli.specs.declared.lines.Shown.TheVariants as shown
 use Rattle.pst_cli.specs.declared.answer.Status.TheVariants.{Accepted, Refused, Lost}
+use Rattle.pst_judge.specs.declared.by_order.CallOrder.{CallOrder}
 use Rattle.pst_rejudge.specs.declared.reading.ItemResult.{ItemResult}
 use Rattle.pst_typing.specs.Loading.{Holds, IsRefusal, items_of}
 use Rattle.pst_typing.specs.declared.loading.Refusal.{Refusal}
@@ -24,22 +26,22 @@ IsCutLine line status = ((line ≡ unread_line) × (status ≡ Refused)) ⊎ ((l
 
 -- a line for each line of the stream, from 1: the verdict on its item, or its refusal; the same of the first lines alone, and
 -- why the others were not judged; or the refusal of the model
-pub data IsStreamOutput (input bytes text : List ℕ) (status : Status) : Type 0 where
+pub data IsStreamOutput (order : CallOrder) (input bytes text : List ℕ) (status : Status) : Type 0 where
   whole : (m : Source) (trees : List Form) (answers : List ItemResult) → Holds input m trees
-      → AllZip (IsLineAnswer m) (lines_of bytes) answers
+      → AllZip (IsLineAnswer order m) (lines_of bytes) answers
       → text ≡ answer_lines 1 answers → status ≡ worst_status Accepted answers
-      → IsStreamOutput input bytes text status
+      → IsStreamOutput order input bytes text status
   cut : (m : Source) (trees : List Form) (first rest : List (List ℕ)) (answers : List ItemResult) (line : List ℕ)
-      → Holds input m trees → lines_of bytes ≡ first ++ rest → AllZip (IsLineAnswer m) first answers
+      → Holds input m trees → lines_of bytes ≡ first ++ rest → AllZip (IsLineAnswer order m) first answers
       → IsCutLine line status → text ≡ answer_lines 1 answers ++ line
-      → IsStreamOutput input bytes text status
+      → IsStreamOutput order input bytes text status
   refused : (refusal : Refusal) → IsRefusal input refusal → text ≡ refusal_line refusal → status ≡ Refused
-      → IsStreamOutput input bytes text status
+      → IsStreamOutput order input bytes text status
 
 -- the lines and the status of a stream with one item on each line are those with `--keep-going` of an input with these items
 abbrev pub StreamsAreFiles : Type 0
 StreamsAreFiles =
-    (input bytes : List ℕ) (m : Source) (trees : List Form) (answers : List ItemResult)
+    (order : CallOrder) (input bytes : List ℕ) (m : Source) (trees : List Form) (answers : List ItemResult)
     → Holds input m trees → AllZip (SpellsItem m) (lines_of bytes) (items_of trees)
-    → AllZip (IsLineAnswer m) (lines_of bytes) answers
-    → IsKeepingOnOutput input (answer_lines 1 answers) (worst_status Accepted answers)
+    → AllZip (IsLineAnswer order m) (lines_of bytes) answers
+    → IsShownKeepingOn order shown.All input (answer_lines 1 answers) (worst_status Accepted answers)

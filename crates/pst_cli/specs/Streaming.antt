@@ -7,6 +7,7 @@ use Rattle.pst_cli.specs.declared.answer.Status.TheVariants.{Accepted}
 use Rattle.pst_cli.specs.declared.stream.Cut.{Cut}
 use Rattle.pst_cli.specs.declared.stream.Cut.TheVariants.{Unread, NoMemory, Unwritten}
 use Rattle.pst_cli.specs.declared.stream.Written.{Written}
+use Rattle.pst_judge.specs.declared.by_order.CallOrder.{CallOrder}
 use Rattle.pst_rejudge.specs.declared.reading.ItemResult.{ItemResult}
 use Rattle.pst_model.specs.declared.model.Source.{Source}
 use Rattle.pst_sexpr.specs.Writing.{WritesAll, WritesPart}
@@ -45,13 +46,13 @@ EndsBlock old answers before after broken result =
     (λ new. AreCounted old answers new × WritesAll before after broken (answer_lines (old.count + 1) answers))
     (IsUnwritten before after broken (answer_lines (old.count + 1) answers))
 
-module _ (m : Source) (stream before after : Option (List ℕ)) (broken : Bool) where
+module _ (order : CallOrder) (m : Source) (stream before after : Option (List ℕ)) (broken : Bool) where
   -- all lines of the stream are answered, and the lines of the answers were written
   pub record IsWhole (status : Status) : Type 0 where
     pub lines : List (List ℕ)
     pub whole : (bytes : List ℕ) → stream ≡ Some bytes → lines_of bytes ≡ lines
     pub answers : List ItemResult
-    pub answered : AllZip (IsLineAnswer m) lines answers
+    pub answered : AllZip (IsLineAnswer order m) lines answers
     pub written : WritesAll before after broken (answer_lines 1 answers)
     pub worst : status ≡ worst_status Accepted answers
 
@@ -60,7 +61,7 @@ module _ (m : Source) (stream before after : Option (List ℕ)) (broken : Bool) 
     pub first : List (List ℕ)
     pub front : (bytes : List ℕ) → stream ≡ Some bytes → (rest : List (List ℕ)) × (lines_of bytes ≡ first ++ rest)
     pub answers : List ItemResult
-    pub answered : AllZip (IsLineAnswer m) first answers
+    pub answered : AllZip (IsLineAnswer order m) first answers
     pub written : IsWrittenTo before after broken (answer_lines 1 answers) cut
 
   -- one of these

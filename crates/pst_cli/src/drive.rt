@@ -11,6 +11,7 @@ use crate::counts::ItemResultCounts;
 use crate::repeat::repeat_answer;
 use crate::run::run_answer;
 use crate::run_objects::run_object_answer;
+use pst_judge::CallOrder;
 use pst_rejudge::ProgressCounter;
 use pst_sexpr::Sink;
 use pst_system::{BoxedSystem, System};
@@ -25,6 +26,8 @@ pub struct DriveOptions {
     pub form: OutputForm,
     /// How often each case is driven. `None` and 0: once, without a count of drives.
     pub repeats: Option<u32>,
+    /// Which interleavings may explain a run. With `CallOrder::Time` the times of its calls are recorded.
+    pub order: CallOrder,
 }
 
 /// The lines that `pst run` writes of cases that are driven once, or `repeats` times if that is not 0.
@@ -33,19 +36,20 @@ fn run_text_answer<R: Threads + Wait>(
     alloc: Global,
     input: &[u8],
     system: &mut BoxedSystem,
+    order: CallOrder,
     repeats: Option<u32>,
     counts: &mut ItemResultCounts,
     steps: &ProgressCounter,
 ) -> Result<Answer, AllocError>
     ensures output { IfOk result (Answers
-        (times_answer repeats (answers system.old) (fails system.old) (reset_fails system.old) input.now)) }
+        (times_answer order repeats (answers system.old) (fails system.old) (reset_fails system.old) input.now)) }
     ensures kept { AreKept (answers system.new) (answers system.old) (fails system.new) (fails system.old)
         (reset_fails system.new) (reset_fails system.old) }
 {
     match repeats {
-        None => run_answer(rt, alloc, input, system, counts, steps),
-        Some(0) => run_answer(rt, alloc, input, system, counts, steps),
-        Some(repeats) => repeat_answer(rt, alloc, input, system, repeats, counts, steps),
+        None => run_answer(rt, alloc, input, system, order, counts, steps),
+        Some(0) => run_answer(rt, alloc, input, system, order, counts, steps),
+        Some(repeats) => repeat_answer(rt, alloc, input, system, order, repeats, counts, steps),
     }
 }
 
@@ -64,15 +68,21 @@ fn drive_answer<R: Threads + Wait>(
     ensures kept { AreKept (answers system.new) (answers system.old) (fails system.new) (fails system.old)
         (reset_fails system.new) (reset_fails system.old) }
 {
+    let order = options.order;
     let repeats = options.repeats;
     match options.form {
-        OutputForm::Json => run_object_answer(rt, alloc, input, system, repeats, counts, steps),
-        OutputForm::Text => run_text_answer(rt, alloc, input, system, repeats, counts, steps),
+        OutputForm::Json => run_object_answer(
+            rt, alloc, input, system, order, repeats, counts, steps,
+        ),
+        OutputForm::Text => run_text_answer(
+            rt, alloc, input, system, order, repeats, counts, steps,
+        ),
     }
 }
 
 /// Drives the case of each item after the model at the start of the input on the system, once or as often as the options
-/// say, and returns the status. Ignores the replies in the input. As text and once, writes what `run_text` does. If a case
+/// say, and returns the status. Judges the runs by the order of the options, and with `CallOrder::Time` records the times of
+/// their calls. Ignores the replies in the input. As text and once, writes what `run_text` does. If a case
 /// is driven several times, writes the run of the first drive that is not explained, or else of the last drive, the line
 /// of its verdict, and a line `NUMBER drives N failed K`; if a drive is lost, a line `NUMBER lost KIND` alone, and the
 /// case is driven no more. As JSON writes an object for each item, on a line: its verdict, as

@@ -5,7 +5,7 @@ ghost use Rattle.pst_cli.specs.Output.{AreJudged};
 ghost use Rattle.pst_cli.specs.Answering.{Delivers, Reaches, Stands};
 ghost use Rattle.pst_cli.specs.Answers.{Answers, IsRefusalBy};
 ghost use Rattle.pst_cli.specs.Sending.{Prints, memory_line};
-ghost use Rattle.pst_judge.specs.Judgement.{IsJudgement};
+ghost use Rattle.pst_judge.specs.Judgement.{IsJudgementBy};
 ghost use Rattle.pst_runs.specs.Lawful.{AreLawful, IsLawful};
 ghost use Rattle.pst_cli.specs.ChosenItem.{IsItem, no_item_line};
 ghost use Rattle.pst_cli.specs.declared.answer.Status.TheVariants.{Refused};
@@ -18,7 +18,7 @@ use crate::judge::{is_explained_or_valid, status_of_judgements};
 use pst_case::Run;
 use pst_compile::Compiled;
 use pst_explain::{TreePlace, explain_item, graphviz_text_of_item_search, tree_places_in_input};
-use pst_judge::Judged;
+use pst_judge::{CallOrder, Judge, Judged};
 use pst_rejudge::ProgressCounter;
 use pst_sexpr::Sink;
 use pst_sources::SourceFile;
@@ -36,6 +36,8 @@ pub struct ExplainOptions<'a> {
     pub most: usize,
     /// The form of the explanations.
     pub form: ExplanationForm,
+    /// Which interleavings may explain a run.
+    pub order: CallOrder,
 }
 
 /// `text` and after it the explanation of an item in a form. `number` is its number, and `place` where it begins. The item
@@ -43,25 +45,27 @@ pub struct ExplainOptions<'a> {
 fn append_explanation_or_graph_of_item(
     mut text: Vec<u8>,
     alloc: Global,
-    compiled: &Compiled,
+    judge: &Judge<'_, Compiled>,
     form: ExplanationForm,
     run: &Run,
     judged: &Judged,
     number: usize,
     place: Option<TreePlace<'_>>,
 ) -> Result<Vec<u8>, AllocError>
-    requires lawful { IsLawful compiled.now run.now }
-    requires judged { IsJudgement compiled.now run.now judged.now }
+    requires lawful { IsLawful judge.now.callbacks.now run.now }
+    requires judged { IsJudgementBy judge.now.order judge.now.callbacks.now run.now judged.now }
 {
+    let compiled = judge.callbacks;
+    let order = judge.order;
     let typed = compiled.typed();
     if let ExplanationForm::Dot { is_whole } = form {
         let graph = graphviz_text_of_item_search(
-            compiled, alloc, typed, run, judged, number, is_whole,
+            compiled, order, alloc, typed, run, judged, number, is_whole,
         )?;
         text.extend_from_slice(graph.as_slice())?;
         return Ok(text);
     }
-    let explanation = explain_item(compiled, alloc, typed, run, judged, number, place)?;
+    let explanation = explain_item(compiled, order, alloc, typed, run, judged, number, place)?;
     let appended = form.append_explanation_unless_graph(text, alloc, &explanation);
     drop(explanation);
     appended
@@ -81,17 +85,17 @@ fn count_items_to_explain(asked: ExplainOptions<'_>, all: &[Judged]) -> usize {
 /// The explanations of the chosen items, numbered from 1. `places` says where the items begin.
 fn document_explaining_chosen_items(
     alloc: Global,
-    compiled: &Compiled,
+    judge: &Judge<'_, Compiled>,
     asked: ExplainOptions<'_>,
     places: &[TreePlace<'_>],
     runs: &[Run],
     all: &[Judged],
     steps: &ProgressCounter,
 ) -> Result<Vec<u8>, AllocError>
-    requires lawful { AreLawful compiled.now runs.now }
-    requires judged { AreJudged compiled.now runs.now all.now }
+    requires lawful { AreLawful judge.now.callbacks.now runs.now }
+    requires judged { AreJudged judge.now.order judge.now.callbacks.now runs.now all.now }
 {
-    let typed = compiled.typed();
+    let typed = judge.callbacks.typed();
     let form = asked.form;
     steps.restart_with_total(count_items_to_explain(asked, all));
     let mut text = form.text_before_items(alloc, asked.files, typed.source())?;
@@ -110,7 +114,7 @@ fn document_explaining_chosen_items(
                 text.extend_from_slice(form.separator_of_explanations().as_bytes())?;
             }
             text = append_explanation_or_graph_of_item(
-                text, alloc, compiled, form, run, judged, number, place,
+                text, alloc, judge, form, run, judged, number, place,
             )?;
             count = count.saturating_add(1);
             steps.add(1);
@@ -125,15 +129,15 @@ fn document_explaining_chosen_items(
 /// The explanations of the chosen items, or the refusal of an item that does not exist.
 fn explanations_answer(
     alloc: Global,
-    compiled: &Compiled,
+    judge: &Judge<'_, Compiled>,
     asked: ExplainOptions<'_>,
     places: &[TreePlace<'_>],
     runs: &[Run],
     all: &[Judged],
     steps: &ProgressCounter,
 ) -> Result<Answer, AllocError>
-    requires lawful { AreLawful compiled.now runs.now }
-    requires judged { AreJudged compiled.now runs.now all.now }
+    requires lawful { AreLawful judge.now.callbacks.now runs.now }
+    requires judged { AreJudged judge.now.order judge.now.callbacks.now runs.now all.now }
     ensures { IfOk result (Answers (IsExplanation asked.entry.chosen all.now)) }
 {
     if let ChosenItems::Item(number) = asked.chosen {
@@ -142,7 +146,7 @@ fn explanations_answer(
         }
     }
     Ok(Answer {
-        text: document_explaining_chosen_items(alloc, compiled, asked, places, runs, all, steps)?,
+        text: document_explaining_chosen_items(alloc, judge, asked, places, runs, all, steps)?,
         status: status_of_judgements(all),
         refuses: false,
     })
@@ -156,21 +160,23 @@ fn explain_answer<R: Threads + Sync>(
     asked: ExplainOptions<'_>,
     steps: &ProgressCounter,
 ) -> Result<Answer, AllocError>
-    ensures { IfOk result (Answers (IsExplainOutput input.now asked.entry.chosen)) }
+    ensures { IfOk result (Answers (IsExplainOutput asked.entry.order input.now asked.entry.chosen)) }
 {
+    let order = asked.order;
     let JudgedFile {
         compiled,
         runs,
         judged,
-    } = match read_and_judge_file(rt, alloc, input, Keep::All, &ProgressCounter::new())? {
+    } = match read_and_judge_file(rt, alloc, input, order, Keep::All, &ProgressCounter::new())? {
         Ok(file) => file,
         Err(answer) => return Ok(answer),
     };
     let runs = concatenate_run_lists(alloc, runs)?;
     let places = tree_places_in_input(alloc, asked.files, input)?;
+    let callbacks = &compiled;
     explanations_answer(
         alloc,
-        &compiled,
+        &Judge { callbacks, order },
         asked,
         places.get(1..).unwrap_or(&[]),
         runs.as_slice(),
@@ -179,7 +185,7 @@ fn explain_answer<R: Threads + Sync>(
     )
 }
 
-/// Explains the verdicts on the chosen items after the model at the start of the input. In the order of the items and
+/// Explains the verdicts by the order of `asked` on the chosen items after the model at the start of the input. In the order of the items and
 /// in the chosen form, writes for each the line of its verdict, its place in the input, and the reason. If the input is
 /// refused, writes its first refusal alone, as `judge_text` does. If the chosen item does not exist, writes
 /// `refused item N of COUNT` alone, with the status `Refused`. Otherwise the status is that of `judge_text`, whichever
@@ -193,7 +199,7 @@ pub fn explain_text<W: Sink, R: Threads + Sync>(
     sink: &mut W,
 ) -> Status
     requires { W.broken sink.old ≡ false }
-    ensures { Prints (IsExplainOutput input.now asked.entry.chosen)
+    ensures { Prints (IsExplainOutput asked.entry.order input.now asked.entry.chosen)
         (W.taken sink.old) (W.taken sink.new) (W.broken sink.new) result }
 {
     let answer = explain_answer(rt, alloc, input, asked, &ProgressCounter::new());
@@ -210,7 +216,7 @@ pub fn explain_items<F: Sink, W: Sink, R: Threads + Sync, A: Attendant>(
     to: &mut Destinations<F, W>,
 ) -> Status
     requires stands { Stands F.broken W.broken to.old }
-    ensures prints { Reaches memory_line (IsExplainOutput input.now options.entry.chosen)
+    ensures prints { Reaches memory_line (IsExplainOutput options.entry.order input.now options.entry.chosen)
         (Delivers F.taken F.broken W.taken W.broken to.old to.new result) }
 {
     let answer = explain_answer(rt, alloc, input, options, attendant.steps());

@@ -1,21 +1,21 @@
 //! Explains a driven run.
 ghost use Rattle.std.specs.Prelude.{◌≡◌, IfOk, IfSome};
-ghost use Rattle.pst_judge.specs.Judgement.{IsJudgement};
-ghost use Rattle.pst_runs.specs.Lawful.{IsLawful};
+ghost use Rattle.pst_judge.specs.Judgement.{IsJudgementBy};
+ghost use Rattle.pst_rejudge.specs.Judging.{MayBeJudged};
 
 use crate::input::compile_model_of_input;
 use crate::judge::is_explained_or_valid;
 use pst_case::{Case, CaseFaultKind, History, Run, Shaped, shape};
 use pst_compile::Compiled;
 use pst_explain::{explain_item, explanation_text_without_heading};
-use pst_judge::{Judged, judge_one};
+use pst_judge::{CallOrder, Judge, Judged};
 use pst_model::Typed;
 use std::alloc::{AllocError, Global};
 
 /// The run of a case of the model with its history, if the history matches the case.
 fn run_if_history_matches_case(typed: &Typed, shaped: Shaped, history: History) -> Option<Run>
     requires { shaped.model ≡ typed.now }
-    ensures { IfSome result (IsLawful typed.now) }
+    ensures { IfSome result (MayBeJudged typed.now) }
 {
     if !history.matches(typed, &shaped) {
         return None;
@@ -33,7 +33,7 @@ pub(crate) fn run_if_case_and_history_fit_model(
     case: Case,
     history: History,
 ) -> Result<Option<Run>, AllocError>
-    ensures { IfOk result (λ found. IfSome found (IsLawful typed.now)) }
+    ensures { IfOk result (λ found. IfSome found (MayBeJudged typed.now)) }
 {
     match shape(alloc, typed, case) {
         Ok(shaped) => Ok(run_if_history_matches_case(typed, shaped, history)),
@@ -48,18 +48,19 @@ pub(crate) fn run_if_case_and_history_fit_model(
 fn explanation_if_judged_run_failed<'a>(
     alloc: Global,
     compiled: &'a Compiled,
+    order: CallOrder,
     run: &'a Run,
     judged: &'a Judged,
     width: usize,
 ) -> Result<Option<Vec<u8>>, AllocError>
-    requires lawful { IsLawful compiled.now run.now }
-    requires judged { IsJudgement compiled.now run.now judged.now }
+    requires may_be { MayBeJudged compiled.now run.now }
+    requires judged { IsJudgementBy order compiled.now run.now judged.now }
 {
     if is_explained_or_valid(judged) {
         return Ok(None);
     }
     let typed = compiled.typed();
-    let explanation = explain_item(compiled, alloc, typed, run, judged, 1, None)?;
+    let explanation = explain_item(compiled, order, alloc, typed, run, judged, 1, None)?;
     let text = explanation_text_without_heading(alloc, &explanation, width);
     drop(explanation);
     Ok(Some(text?))
@@ -69,36 +70,37 @@ fn explanation_if_judged_run_failed<'a>(
 /// run is explained.
 fn judge_run_and_explain_if_failed(
     alloc: Global,
-    compiled: &Compiled,
+    judge: &Judge<'_, Compiled>,
     run: &Run,
     width: usize,
 ) -> Result<Option<Vec<u8>>, AllocError>
-    requires { IsLawful compiled.now run.now }
+    requires { MayBeJudged judge.now.callbacks.now run.now }
 {
-    let judged = judge_one(compiled, alloc, run)?;
-    explanation_if_judged_run_failed(alloc, compiled, run, &judged, width)
+    let judged = judge.judge_one(alloc, run)?;
+    explanation_if_judged_run_failed(alloc, judge.callbacks, judge.order, run, &judged, width)
 }
 
 /// Explains why no interleaving explains the run of a case with its history. Returns `None` if the
 /// run is explained or is no run of the model.
 fn judge_history_and_explain_if_failed(
     alloc: Global,
-    compiled: &Compiled,
+    judge: &Judge<'_, Compiled>,
     case: Case,
     history: History,
     width: usize,
 ) -> Result<Option<Vec<u8>>, AllocError> {
-    match run_if_case_and_history_fit_model(alloc, compiled.typed(), case, history)? {
-        Some(run) => judge_run_and_explain_if_failed(alloc, compiled, &run, width),
+    match run_if_case_and_history_fit_model(alloc, judge.callbacks.typed(), case, history)? {
+        Some(run) => judge_run_and_explain_if_failed(alloc, judge, &run, width),
         None => Ok(None),
     }
 }
 
-/// Explains why no interleaving explains a recorded run on the model at the start of the input, in lines of at most
-/// `width` bytes. Returns `None` if the run is explained or is no run of the model, or the input is refused.
+/// Explains why no interleaving that counts by `order` explains a recorded run on the model at the start of the input, in
+/// lines of at most `width` bytes. Returns `None` if the run is explained or is no run of the model, or the input is refused.
 pub fn compile_model_and_explain_failed_run(
     alloc: Global,
     input: &[u8],
+    order: CallOrder,
     case: Case,
     history: History,
     width: usize,
@@ -106,5 +108,7 @@ pub fn compile_model_and_explain_failed_run(
     let Ok(file) = compile_model_of_input(alloc, input)? else {
         return Ok(None);
     };
-    judge_history_and_explain_if_failed(alloc, &file.compiled, case, history, width)
+    let callbacks = &file.compiled;
+    let judge = Judge { callbacks, order };
+    judge_history_and_explain_if_failed(alloc, &judge, case, history, width)
 }

@@ -1,6 +1,6 @@
 //! The page of a campaign's failures.
-ghost use Rattle.pst_judge.specs.Judgement.{IsJudgement};
-ghost use Rattle.pst_runs.specs.Lawful.{IsLawful};
+ghost use Rattle.pst_judge.specs.Judgement.{IsJudgementBy};
+ghost use Rattle.pst_rejudge.specs.Judging.{MayBeJudged};
 
 use crate::explained_run::run_if_case_and_history_fit_model;
 use crate::input::compile_model_of_input;
@@ -11,7 +11,7 @@ use pst_json::{
     AFTER_DATA, AFTER_ITEMS, AFTER_NO_ITEM, BEFORE_DATA, BETWEEN_ITEMS, CampaignFacts,
     json_campaign_document_start, trial_explanation_json,
 };
-use pst_judge::{Judged, judge_one};
+use pst_judge::{CallOrder, Judge, Judged};
 use pst_ledger::Entry;
 use pst_sources::SourceFile;
 use pst_trial::{FailingCase, JudgedRun, Plan, Record, TrialOutcome};
@@ -35,6 +35,8 @@ pub struct TrialFailure {
 #[derive(Drop)]
 pub struct CampaignFailures {
     facts: CampaignFacts,
+    /// The order by which the campaign judged its runs.
+    order: CallOrder,
     each: Vec<TrialFailure>,
 }
 
@@ -88,7 +90,8 @@ impl CampaignFailures {
             trials: settings.trials as u64,
             failed,
         };
-        Ok(CampaignFailures { facts, each })
+        let order = settings.order;
+        Ok(CampaignFailures { facts, order, each })
     }
 }
 
@@ -96,16 +99,17 @@ impl CampaignFailures {
 fn judged_run_explanation_json<'a>(
     alloc: Global,
     compiled: &'a Compiled,
+    order: CallOrder,
     run: &'a Run,
     judged: &'a Judged,
     number: usize,
     trial: usize,
 ) -> Result<Vec<u8>, AllocError>
-    requires lawful { IsLawful compiled.now run.now }
-    requires judged { IsJudgement compiled.now run.now judged.now }
+    requires may_be { MayBeJudged compiled.now run.now }
+    requires judged { IsJudgementBy order compiled.now run.now judged.now }
 {
     let typed = compiled.typed();
-    let explanation = explain_item(compiled, alloc, typed, run, judged, number, None)?;
+    let explanation = explain_item(compiled, order, alloc, typed, run, judged, number, None)?;
     let json = trial_explanation_json(alloc, &explanation, trial);
     drop(explanation);
     json
@@ -115,21 +119,29 @@ fn judged_run_explanation_json<'a>(
 /// `trial` that of its trial.
 fn judge_run_and_explain_as_json(
     alloc: Global,
-    compiled: &Compiled,
+    judge: &Judge<'_, Compiled>,
     run: &Run,
     number: usize,
     trial: usize,
 ) -> Result<Vec<u8>, AllocError>
-    requires { IsLawful compiled.now run.now }
+    requires { MayBeJudged judge.now.callbacks.now run.now }
 {
-    let judged = judge_one(compiled, alloc, run)?;
-    judged_run_explanation_json(alloc, compiled, run, &judged, number, trial)
+    let judged = judge.judge_one(alloc, run)?;
+    judged_run_explanation_json(
+        alloc,
+        judge.callbacks,
+        judge.order,
+        run,
+        &judged,
+        number,
+        trial,
+    )
 }
 
 /// The explanation of a failure as JSON. `number` is its number on the page. `None`: it is no run of the model.
 fn judge_failure_and_explain_as_json(
     alloc: Global,
-    compiled: &Compiled,
+    judge: &Judge<'_, Compiled>,
     number: usize,
     failure: TrialFailure,
 ) -> Result<Option<Vec<u8>>, AllocError> {
@@ -138,24 +150,24 @@ fn judge_failure_and_explain_as_json(
         case,
         history,
     } = failure;
-    let Some(run) = run_if_case_and_history_fit_model(alloc, compiled.typed(), case, history)?
-    else {
+    let typed = judge.callbacks.typed();
+    let Some(run) = run_if_case_and_history_fit_model(alloc, typed, case, history)? else {
         return Ok(None);
     };
-    Ok(Some(judge_run_and_explain_as_json(alloc, compiled, &run, number, trial)?))
+    Ok(Some(judge_run_and_explain_as_json(alloc, judge, &run, number, trial)?))
 }
 
 /// Adds the explanations of failures, and the end of their document.
 fn add_failures_json_and_document_end(
     text: &mut Vec<u8>,
     alloc: Global,
-    compiled: &Compiled,
+    judge: &Judge<'_, Compiled>,
     failures: Vec<TrialFailure>,
 ) -> Result<(), AllocError> {
     let mut count = 0usize;
     for failure in failures {
         let number = count.saturating_add(1);
-        if let Some(json) = judge_failure_and_explain_as_json(alloc, compiled, number, failure)? {
+        if let Some(json) = judge_failure_and_explain_as_json(alloc, judge, number, failure)? {
             if count > 0 {
                 text.extend_from_slice(BETWEEN_ITEMS.as_bytes())?;
             }
@@ -182,12 +194,13 @@ pub fn campaign_failures_html_page(
     let Ok(file) = compile_model_of_input(alloc, input)? else {
         return Ok(None);
     };
-    let CampaignFailures { facts, each } = failures;
-    let compiled = &file.compiled;
-    let start = json_campaign_document_start(alloc, files, facts, compiled.typed().source())?;
+    let CampaignFailures { facts, order, each } = failures;
+    let callbacks = &file.compiled;
+    let judge = Judge { callbacks, order };
+    let start = json_campaign_document_start(alloc, files, facts, callbacks.typed().source())?;
     let mut text = Vec::from_slice(alloc, BEFORE_DATA.as_bytes())?;
     text.extend_from_slice(start.as_slice())?;
-    add_failures_json_and_document_end(&mut text, alloc, compiled, each)?;
+    add_failures_json_and_document_end(&mut text, alloc, &judge, each)?;
     text.extend_from_slice(AFTER_DATA.as_bytes())?;
     Ok(Some(text))
 }

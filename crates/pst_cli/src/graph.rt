@@ -6,6 +6,7 @@ ghost use Rattle.pst_cli.specs.ChosenItem.{IsItem};
 ghost use Rattle.pst_cli.specs.GraphOutput.{IsGraphOf, IsGraphOutput, drawn_number, first_failed};
 ghost use Rattle.pst_cli.specs.Output.{AreJudged};
 ghost use Rattle.pst_cli.specs.Sending.{Prints, memory_line};
+ghost use Rattle.pst_judge.specs.declared.by_order.CallOrder.TheVariants.{Any};
 ghost use Rattle.pst_runs.specs.Lawful.{AreLawful};
 
 use crate::answer::{Answer, Destinations, MEMORY_LINE, Status, deliver, send};
@@ -15,7 +16,7 @@ use crate::judge::{is_explained_or_valid, status_of_judgements};
 use pst_case::Run;
 use pst_compile::Compiled;
 use pst_explain::graphviz_text_of_item_search;
-use pst_judge::Judged;
+use pst_judge::{CallOrder, Judge, Judged};
 use pst_rejudge::ProgressCounter;
 use pst_sexpr::Sink;
 use std::alloc::{AllocError, Global};
@@ -46,14 +47,14 @@ fn number_of_item_to_draw(item: Option<usize>, all: &[Judged]) -> usize
 /// The graph of item `number`, from 1, if it exists.
 fn graph_of_item_if_it_exists(
     alloc: Global,
-    compiled: &Compiled,
+    judge: &Judge<'_, Compiled>,
     number: usize,
     whole: bool,
     runs: &[Run],
     all: &[Judged],
 ) -> Result<Option<Vec<u8>>, AllocError>
-    requires lawful { AreLawful compiled.now runs.now }
-    requires judged { AreJudged compiled.now runs.now all.now }
+    requires lawful { AreLawful judge.now.callbacks.now runs.now }
+    requires judged { AreJudged judge.now.order judge.now.callbacks.now runs.now all.now }
     ensures { IfOk result (λ graph.
         MatchOption graph (IsItem number all.now → ⊥) (λ text. IsItem number all.now)) }
 {
@@ -67,9 +68,10 @@ fn graph_of_item_if_it_exists(
         return Ok(None);
     };
     let graph = graphviz_text_of_item_search(
-        compiled,
+        judge.callbacks,
+        judge.order,
         alloc,
-        compiled.typed(),
+        judge.callbacks.typed(),
         run,
         judged,
         number,
@@ -81,18 +83,18 @@ fn graph_of_item_if_it_exists(
 /// The graph of the chosen item, or the refusal of an item that does not exist.
 fn item_graph_answer(
     alloc: Global,
-    compiled: &Compiled,
+    judge: &Judge<'_, Compiled>,
     item: Option<usize>,
     whole: bool,
     runs: &[Run],
     all: &[Judged],
 ) -> Result<Answer, AllocError>
-    requires lawful { AreLawful compiled.now runs.now }
-    requires judged { AreJudged compiled.now runs.now all.now }
+    requires lawful { AreLawful judge.now.callbacks.now runs.now }
+    requires judged { AreJudged judge.now.order judge.now.callbacks.now runs.now all.now }
     ensures { IfOk result (Answers (IsGraphOf item all.now)) }
 {
     let number = number_of_item_to_draw(item, all);
-    match graph_of_item_if_it_exists(alloc, compiled, number, whole, runs, all)? {
+    match graph_of_item_if_it_exists(alloc, judge, number, whole, runs, all)? {
         Some(text) => Ok(Answer {
             text,
             status: status_of_judgements(all),
@@ -107,23 +109,25 @@ fn graph_answer<R: Threads + Sync>(
     rt: &R,
     alloc: Global,
     input: &[u8],
+    order: CallOrder,
     item: Option<usize>,
     whole: bool,
 ) -> Result<Answer, AllocError>
-    ensures { IfOk result (Answers (IsGraphOutput input.now item)) }
+    ensures { IfOk result (Answers (IsGraphOutput order input.now item)) }
 {
     let JudgedFile {
         compiled,
         runs,
         judged,
-    } = match read_and_judge_file(rt, alloc, input, Keep::All, &ProgressCounter::new())? {
+    } = match read_and_judge_file(rt, alloc, input, order, Keep::All, &ProgressCounter::new())? {
         Ok(file) => file,
         Err(answer) => return Ok(answer),
     };
     let runs = concatenate_run_lists(alloc, runs)?;
+    let callbacks = &compiled;
     item_graph_answer(
         alloc,
-        &compiled,
+        &Judge { callbacks, order },
         item,
         whole,
         runs.as_slice(),
@@ -146,31 +150,32 @@ pub fn write_search_graph_of_item<W: Sink, R: Threads + Sync>(
     sink: &mut W,
 ) -> Status
     requires { W.broken sink.old ≡ false }
-    ensures { Prints (IsGraphOutput input.now item)
+    ensures { Prints (IsGraphOutput Any input.now item)
         (W.taken sink.old) (W.taken sink.new) (W.broken sink.new) result }
 {
     send(
-        &graph_answer(rt, alloc, input, item, whole),
+        &graph_answer(rt, alloc, input, CallOrder::Any, item, whole),
         MEMORY_LINE,
         sink,
     )
 }
 
-/// Does what [`write_search_graph_of_item`] does.
+/// Does what [`write_search_graph_of_item`] does, over the interleavings that count by `order`.
 pub fn draw_item<F: Sink, W: Sink, R: Threads + Sync>(
     rt: &R,
     alloc: Global,
     input: &[u8],
+    order: CallOrder,
     item: Option<usize>,
     is_whole: bool,
     to: &mut Destinations<F, W>,
 ) -> Status
     requires stands { Stands F.broken W.broken to.old }
-    ensures prints { Reaches memory_line (IsGraphOutput input.now item)
+    ensures prints { Reaches memory_line (IsGraphOutput order input.now item)
         (Delivers F.taken F.broken W.taken W.broken to.old to.new result) }
 {
     deliver(
-        &graph_answer(rt, alloc, input, item, is_whole),
+        &graph_answer(rt, alloc, input, order, item, is_whole),
         MEMORY_LINE,
         to,
     )

@@ -17,7 +17,7 @@ use crate::judge::{read_runs_of_trees, refused_run_answer};
 use pst_case::Run;
 use pst_compile::{Code, Compiled, compile};
 use pst_explain::tree_places_in_input;
-use pst_judge::Judged;
+use pst_judge::{CallOrder, Judge, Judged};
 use pst_model::{Expr, Item, Typed};
 use pst_rejudge::{
     JudgedParts, ProgressCounter, read_and_judge_in_parts, rejudge_with_progress,
@@ -101,7 +101,7 @@ pub struct JudgedFile {
     pub judged: Vec<Judged>,
 }
 
-/// Reads and judges parts of the input on several threads at once. Keeps the judgements of each part, and its runs as
+/// Reads and judges parts of the input by an order, on several threads at once. Keeps the judgements of each part, and its runs as
 /// `keep` says. Returns `None`, which says nothing about the input, if the input is over `MAX_BYTES`, if it does not
 /// begin with a well-typed model alone before the next line that begins with a bracket, or if some part of the rest
 /// cannot be read by itself.
@@ -109,11 +109,12 @@ fn read_and_judge_in_parallel_if_possible<R: Threads + Sync>(
     rt: &R,
     alloc: Global,
     input: &[u8],
+    order: CallOrder,
     keep: Keep,
     steps: &ProgressCounter,
 ) -> Result<Option<JudgedFile>, AllocError>
     ensures { IfOk result (λ read. IfSome read (λ file.
-        HoldsJudged (keeps_all keep) input.now file.compiled (joined file.runs.items) file.judged.items)) }
+        HoldsJudged order (keeps_all keep) input.now file.compiled (joined file.runs.items) file.judged.items)) }
 {
     if input.len() > MAX_BYTES {
         return Ok(None);
@@ -129,7 +130,9 @@ fn read_and_judge_in_parallel_if_possible<R: Threads + Sync>(
     }
     prove_compiled_models_are_sync();
     let keeps = keep.keeps_runs_of_model(compiled.typed());
-    match read_and_judge_in_parts(rt, &compiled, alloc, compiled.typed(), rest, keeps, steps)? {
+    let callbacks = &compiled;
+    let judge = Judge { callbacks, order };
+    match read_and_judge_in_parts(rt, &judge, alloc, compiled.typed(), rest, keeps, steps)? {
         Some(JudgedParts { runs, judged }) => Ok(Some(JudgedFile {
             compiled,
             runs,
@@ -159,16 +162,17 @@ pub fn concatenate_run_lists(alloc: Global, parts: Vec<Vec<Run>>) -> Result<Vec<
     Ok(runs)
 }
 
-/// Reads the input from its first byte to its last and then judges its items, several at once. Returns the items and
+/// Reads the input from its first byte to its last and then judges its items by an order, several at once. Returns the items and
 /// judgements, or the first refusal.
 fn read_all_runs_then_judge_in_parallel<R: Threads + Sync>(
     rt: &R,
     alloc: Global,
     input: &[u8],
+    order: CallOrder,
     steps: &ProgressCounter,
 ) -> Result<Result<JudgedFile, Answer>, AllocError>
     ensures { IfOk result (λ read. MatchResult read
-        (λ file. HoldsJudged true input.now file.compiled (joined file.runs.items) file.judged.items)
+        (λ file. HoldsJudged order true input.now file.compiled (joined file.runs.items) file.judged.items)
         (Answers (IsFirstRefusal input.now))) }
 {
     let ModelAndRuns { compiled, runs } = match read_model_and_runs_of_input(alloc, input)? {
@@ -177,7 +181,9 @@ fn read_all_runs_then_judge_in_parallel<R: Threads + Sync>(
     };
     prove_compiled_models_are_sync();
     steps.restart_with_total(runs.len());
-    let judged = rejudge_with_progress(rt, &compiled, alloc, runs.as_slice(), steps)?;
+    let callbacks = &compiled;
+    let judge = Judge { callbacks, order };
+    let judged = rejudge_with_progress(rt, &judge, alloc, runs.as_slice(), steps)?;
     let runs = wrap_runs_in_one_list(alloc, runs)?;
     Ok(Ok(JudgedFile {
         compiled,
@@ -186,22 +192,23 @@ fn read_all_runs_then_judge_in_parallel<R: Threads + Sync>(
     }))
 }
 
-/// The judgements on the items of an input, several judged at once, or the first refusal. `keep` says
+/// The judgements by an order on the items of an input, several judged at once, or the first refusal. `keep` says
 /// which items to keep; more may be kept. `steps` counts the items that are judged.
 pub fn read_and_judge_file<R: Threads + Sync>(
     rt: &R,
     alloc: Global,
     input: &[u8],
+    order: CallOrder,
     keep: Keep,
     steps: &ProgressCounter,
 ) -> Result<Result<JudgedFile, Answer>, AllocError>
     ensures { IfOk result (λ read. MatchResult read
-        (λ file. HoldsJudged (keeps_all keep) input.now file.compiled (joined file.runs.items) file.judged.items)
+        (λ file. HoldsJudged order (keeps_all keep) input.now file.compiled (joined file.runs.items) file.judged.items)
         (Answers (IsFirstRefusal input.now))) }
 {
-    match read_and_judge_in_parallel_if_possible(rt, alloc, input, keep, steps)? {
+    match read_and_judge_in_parallel_if_possible(rt, alloc, input, order, keep, steps)? {
         Some(file) => Ok(Ok(file)),
-        None => read_all_runs_then_judge_in_parallel(rt, alloc, input, steps),
+        None => read_all_runs_then_judge_in_parallel(rt, alloc, input, order, steps),
     }
 }
 

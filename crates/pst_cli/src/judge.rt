@@ -9,6 +9,7 @@ ghost use Rattle.pst_cli.specs.Kept.{HoldsJudged};
 ghost use Rattle.pst_cli.specs.Output.{IsJudgeOutput, IsShownOutput, is_good, run_line, status_of};
 ghost use Rattle.pst_cli.specs.Sending.{Prints};
 ghost use Rattle.pst_cli.specs.declared.answer.Status.TheVariants.{Refused};
+ghost use Rattle.pst_judge.specs.declared.by_order.CallOrder.TheVariants.{Any};
 ghost use Rattle.pst_rejudge.specs.Parts.{joined};
 ghost use Rattle.pst_runs.specs.Items.{runs_of};
 ghost use Rattle.pst_runs.specs.Lawful.{AreLawful};
@@ -26,7 +27,7 @@ use crate::keep::{
 use crate::lines::{Shown, shown_item_verdict_lines};
 use crate::objects::{refusal_object_answer, shown_item_json_objects};
 use pst_case::{CaseFaultKind, Run};
-use pst_judge::{Judged, Verdict};
+use pst_judge::{CallOrder, Judged, Verdict};
 use pst_model::Typed;
 use pst_rejudge::{ItemResult, ProgressCounter};
 use pst_runs::{RunFault, RunFaultKind, read_runs};
@@ -107,6 +108,8 @@ pub struct JudgeOptions {
     pub keeps_going: bool,
     /// Which items have a line or an object.
     pub shown: Shown,
+    /// Which interleavings may explain a run.
+    pub order: CallOrder,
     /// Whether runs up to the first refused item are returned if the precondition of some operation is another
     /// expression than `true`. Over any other model none is worth a warning, and each thread drops the runs that it
     /// judged.
@@ -125,19 +128,20 @@ pub enum Judging {
 /// An answer, and what was judged for it if the input is not refused.
 type JudgeAnswer = (Answer, Option<Judging>);
 
-/// The lines of the items after the model, and their judgements; or the first refusal.
+/// The lines of the items after the model, and their judgements by an order; or the first refusal.
 fn judge_up_to_refusal<R: Threads + Sync>(
     rt: &R,
     alloc: Global,
     input: &[u8],
+    order: CallOrder,
     shown: Shown,
     keep: Keep,
     steps: &ProgressCounter,
 ) -> Result<JudgeAnswer, AllocError>
-    ensures output { IfOk result (λ r. Answers (IsShownOutput shown input.now) r.0) }
-    ensures held { IfOk result (λ r. IfSome r.1 (HoldsJudging input.now)) }
+    ensures output { IfOk result (λ r. Answers (IsShownOutput order shown input.now) r.0) }
+    ensures held { IfOk result (λ r. IfSome r.1 (HoldsJudging order input.now)) }
 {
-    let file = match read_and_judge_file(rt, alloc, input, keep, steps)? {
+    let file = match read_and_judge_file(rt, alloc, input, order, keep, steps)? {
         Ok(file) => file,
         Err(answer) => return Ok((answer, None)),
     };
@@ -179,19 +183,20 @@ fn shown_item_results(
     }
 }
 
-/// The lines or objects of the items after the model, and all results; or the refusal of the model.
+/// The lines or objects of the items after the model, judged by an order, and all results; or the refusal of the model.
 fn judge_each<R: Threads + Sync>(
     rt: &R,
     alloc: Global,
     input: &[u8],
+    order: CallOrder,
     form: OutputForm,
     shown: Shown,
     steps: &ProgressCounter,
 ) -> Result<JudgeAnswer, AllocError>
-    ensures output { IfOk result (λ r. Answers (each_answer form shown input.now) r.0) }
-    ensures held { IfOk result (λ r. IfSome r.1 (HoldsJudging input.now)) }
+    ensures output { IfOk result (λ r. Answers (each_answer order form shown input.now) r.0) }
+    ensures held { IfOk result (λ r. IfSome r.1 (HoldsJudging order input.now)) }
 {
-    let answered = match judge_each_item_of_input(rt, alloc, input, steps)? {
+    let answered = match judge_each_item_of_input(rt, alloc, input, order, steps)? {
         Ok(answered) => answered,
         Err(refusal) => return Ok((refused_model_answer(alloc, form, &refusal)?, None)),
     };
@@ -213,17 +218,18 @@ fn judge_answer<R: Threads + Sync>(
     steps: &ProgressCounter,
 ) -> Result<JudgeAnswer, AllocError>
     ensures output { IfOk result (λ r. Answers (IsJudgeAnswer options input.now) r.0) }
-    ensures held { IfOk result (λ r. IfSome r.1 (HoldsJudging input.now)) }
+    ensures held { IfOk result (λ r. IfSome r.1 (HoldsJudging options.order input.now)) }
 {
+    let order = options.order;
     let shown = options.shown;
     match options.form {
-        OutputForm::Json => judge_each(rt, alloc, input, OutputForm::Json, shown, steps),
+        OutputForm::Json => judge_each(rt, alloc, input, order, OutputForm::Json, shown, steps),
         OutputForm::Text => {
             if options.keeps_going {
-                return judge_each(rt, alloc, input, OutputForm::Text, shown, steps);
+                return judge_each(rt, alloc, input, order, OutputForm::Text, shown, steps);
             }
             let keep = Keep::for_warnings(options.keeps_runs);
-            judge_up_to_refusal(rt, alloc, input, shown, keep, steps)
+            judge_up_to_refusal(rt, alloc, input, order, shown, keep, steps)
         }
     }
 }
@@ -241,8 +247,8 @@ fn split_judging(
     }
 }
 
-/// Judges the items after the model at the start of the input, several at once, and returns the status, and what was
-/// judged unless the input is refused or an allocation fails.
+/// Judges the items after the model at the start of the input by the order of the options, several at once, and returns
+/// the status, and what was judged unless the input is refused or an allocation fails.
 ///
 /// As text without `keeps_going`, writes what [`judge_text`] does; with it, what [`judge_text_keep_going`] does. As
 /// JSON, writes a line with an object for each item, in their order: its number and its verdict, or why it is refused;
@@ -260,7 +266,7 @@ pub fn judge_items<F: Sink, W: Sink, R: Threads + Sync, A: Attendant>(
     requires stands { Stands F.broken W.broken to.old }
     ensures prints { Reaches (memory_of options.form) (IsJudgeAnswer options input.now)
         (Delivers F.taken F.broken W.taken W.broken to.old to.new result.0) }
-    ensures held { IfSome result.1 (HoldsJudging input.now) }
+    ensures held { IfSome result.1 (HoldsJudging options.order input.now) }
 {
     let judged = judge_answer(rt, alloc, input, options, attendant.steps());
     let (answer, judging) = split_judging(judged);
@@ -281,8 +287,9 @@ pub fn judge_text<W: Sink, R: Threads + Sync>(
     ensures { Prints (IsJudgeOutput input.now)
         (W.taken sink.old) (W.taken sink.new) (W.broken sink.new) result }
 {
+    let order = CallOrder::Any;
     let steps = ProgressCounter::new();
-    let judged = judge_up_to_refusal(rt, alloc, input, Shown::All, Keep::Nothing, &steps);
+    let judged = judge_up_to_refusal(rt, alloc, input, order, Shown::All, Keep::Nothing, &steps);
     let (answer, _) = split_judging(judged);
     send(&answer, MEMORY_LINE, sink)
 }
@@ -298,15 +305,16 @@ pub fn judge_file<W: Sink, R: Threads + Sync>(
     sink: &mut W,
 ) -> (Status, Option<JudgedFile>)
     requires { W.broken sink.old ≡ false }
-    ensures prints { Prints (IsShownOutput shown input.now)
+    ensures prints { Prints (IsShownOutput Any shown input.now)
         (W.taken sink.old) (W.taken sink.new) (W.broken sink.new) result.0 }
-    ensures held { IfSome result.1 (λ file. HoldsJudged false input.now file.compiled
+    ensures held { IfSome result.1 (λ file. HoldsJudged Any false input.now file.compiled
         (joined file.runs.items) file.judged.items) }
     ensures lawful { IfSome result.1
         (λ judged. All (λ runs. AreLawful judged.compiled runs.items) judged.runs.items) }
 {
+    let order = CallOrder::Any;
     let steps = ProgressCounter::new();
-    let judged = judge_up_to_refusal(rt, alloc, input, shown, Keep::ForWarnings, &steps);
+    let judged = judge_up_to_refusal(rt, alloc, input, order, shown, Keep::ForWarnings, &steps);
     let (answer, judging) = split_judging(judged);
     let status = send(&answer, MEMORY_LINE, sink);
     match judging {
@@ -347,13 +355,14 @@ pub fn judge_file_keep_going<W: Sink, R: Threads + Sync>(
     sink: &mut W,
 ) -> (Status, Option<FileWithItemResults>)
     requires { W.broken sink.old ≡ false }
-    ensures prints { Prints (IsShownKeepingOn shown input.now)
+    ensures prints { Prints (IsShownKeepingOn Any shown input.now)
         (W.taken sink.old) (W.taken sink.new) (W.broken sink.new) result.0 }
-    ensures held { IfSome result.1 (λ answered. HoldsAnswers input.now answered.file.compiled
+    ensures held { IfSome result.1 (λ answered. HoldsAnswers Any input.now answered.file.compiled
         answered.file.trees.items answered.answers.items) }
 {
+    let order = CallOrder::Any;
     let steps = ProgressCounter::new();
-    let judged = judge_each(rt, alloc, input, OutputForm::Text, shown, &steps);
+    let judged = judge_each(rt, alloc, input, order, OutputForm::Text, shown, &steps);
     let (answer, judging) = split_judging(judged);
     let status = send(&answer, MEMORY_LINE, sink);
     match judging {

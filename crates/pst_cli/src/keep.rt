@@ -9,6 +9,7 @@ use crate::input::{CompiledModelAndTrees, compile_model_of_input, prove_compiled
 use crate::judge::{is_explained_or_valid, refused_run_line};
 use crate::lines::{Shown, add_item_verdict_line};
 use crate::run::status_of_judgement;
+use pst_judge::{CallOrder, Judge};
 use pst_rejudge::{ItemResult, ProgressCounter, read_and_judge_each_tree};
 use pst_runs::RunFault;
 use pst_typing::{Refusal, trees_after_model};
@@ -146,16 +147,17 @@ pub struct FileWithItemResults {
     pub answers: Vec<ItemResult>,
 }
 
-/// Judges each item after the model at the start of the input, several at once, and counts them in `steps`; or returns
+/// Judges each item after the model at the start of the input by an order, several at once, and counts them in `steps`; or returns
 /// the refusal of the model.
 pub(crate) fn judge_each_item_of_input<R: Threads + Sync>(
     rt: &R,
     alloc: Global,
     input: &[u8],
+    order: CallOrder,
     steps: &ProgressCounter,
 ) -> Result<Result<FileWithItemResults, Refusal>, AllocError>
     ensures { IfOk result (λ read. MatchResult read
-        (λ answered. HoldsAnswers input.now answered.file.compiled answered.file.trees.items answered.answers.items)
+        (λ answered. HoldsAnswers order input.now answered.file.compiled answered.file.trees.items answered.answers.items)
         (λ refusal. IsRefusal input.now refusal)) }
 {
     let file = match compile_model_of_input(alloc, input)? {
@@ -166,6 +168,8 @@ pub(crate) fn judge_each_item_of_input<R: Threads + Sync>(
     prove_compiled_models_are_sync();
     steps.restart_with_total(items.len());
     let typed = file.compiled.typed();
-    let answers = read_and_judge_each_tree(rt, &file.compiled, alloc, typed, items, steps)?;
+    let callbacks = &file.compiled;
+    let judge = Judge { callbacks, order };
+    let answers = read_and_judge_each_tree(rt, &judge, alloc, typed, items, steps)?;
     Ok(Ok(FileWithItemResults { file, answers }))
 }

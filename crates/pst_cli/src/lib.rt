@@ -57,6 +57,7 @@ pub use losses::LostTrials;
 pub use model_commands::{ItemForm, check_model, check_text, convert_items, list_model, list_text};
 pub use notes::CampaignNotes;
 pub use objects::MEMORY_OBJECT;
+pub use pst_judge::CallOrder;
 pub use pst_rejudge::ProgressCounter;
 pub use run::run_text;
 pub use stream::{RefusedLineReceiver, judge_stream};

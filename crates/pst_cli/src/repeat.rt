@@ -11,7 +11,7 @@ use crate::input::{ModelAndRuns, read_model_and_runs_of_input};
 use crate::run::{drive_and_report_valid_case, invalid_case_line};
 use pst_case::{Run, Shaped};
 use pst_compile::Compiled;
-use pst_judge::{Valid, valid};
+use pst_judge::{CallOrder, Judge, Valid, valid};
 use pst_rejudge::ProgressCounter;
 use pst_system::{BoxedSystem, System};
 use std::alloc::{AllocError, Global};
@@ -87,18 +87,18 @@ fn append_line_of_drive_counts(
 fn drive_case_repeatedly_and_report_once<R: Threads + Wait>(
     rt: &R,
     alloc: Global,
-    compiled: &Compiled,
+    judge: &Judge<'_, Compiled>,
     system: &mut BoxedSystem,
     number: usize,
     valid: &Valid,
     repeats: u32,
     counts: &mut ItemResultCounts,
 ) -> Result<Output, AllocError>
-    requires model { valid.now.model ≡ compiled.now }
+    requires model { valid.now.model ≡ judge.now.callbacks.now }
     requires some { 1 ≤ repeats }
     ensures reported { IfOk result (λ output.
-        IsRepeated compiled.now (answers system.old) (fails system.old) (reset_fails system.old)
-        repeats number valid.now.case output.text.items output.status) }
+        IsRepeated judge.now.order judge.now.callbacks.now (answers system.old) (fails system.old)
+        (reset_fails system.old) repeats number valid.now.case output.text.items output.status) }
     ensures kept { AreKept (answers system.new) (answers system.old) (fails system.new) (fails system.old)
         (reset_fails system.new) (reset_fails system.old) }
 {
@@ -107,10 +107,10 @@ fn drive_case_repeatedly_and_report_once<R: Threads + Wait>(
     let mut own = ItemResultCounts::new();
     let mut failed = 0;
     for _drive in 0..repeats {
-        let copy = valid.copy(alloc, compiled.typed().source())?;
+        let copy = valid.copy(alloc, judge.callbacks.typed().source())?;
         let mut drive = ItemResultCounts::new();
         let output = drive_and_report_valid_case(
-            rt, alloc, compiled, system, number, copy, &mut drive,
+            rt, alloc, judge, system, number, copy, &mut drive,
         )?;
         if output.status == Status::Lost {
             counts.add_counts_and_first_broken_run(drive);
@@ -131,26 +131,26 @@ fn drive_case_repeatedly_and_report_once<R: Threads + Wait>(
 fn drive_item_repeatedly_or_report_invalid<R: Threads + Wait>(
     rt: &R,
     alloc: Global,
-    compiled: &Compiled,
+    judge: &Judge<'_, Compiled>,
     system: &mut BoxedSystem,
     number: usize,
     shaped: &Shaped,
     repeats: u32,
     counts: &mut ItemResultCounts,
 ) -> Result<Output, AllocError>
-    requires model { shaped.now.model ≡ compiled.now }
+    requires model { shaped.now.model ≡ judge.now.callbacks.now }
     requires some { 1 ≤ repeats }
     ensures reported { IfOk result (λ output.
-        IsRepeated compiled.now (answers system.old) (fails system.old) (reset_fails system.old)
-        repeats number shaped.now.case output.text.items output.status) }
+        IsRepeated judge.now.order judge.now.callbacks.now (answers system.old) (fails system.old)
+        (reset_fails system.old) repeats number shaped.now.case output.text.items output.status) }
     ensures kept { AreKept (answers system.new) (answers system.old) (fails system.new) (fails system.old)
         (reset_fails system.new) (reset_fails system.old) }
 {
-    let copy = shaped.copy(alloc, compiled.typed().source())?;
-    match valid(compiled, alloc, copy) {
+    let copy = shaped.copy(alloc, judge.callbacks.typed().source())?;
+    match valid(judge.callbacks, alloc, copy) {
         Ok(valid) => {
             drive_case_repeatedly_and_report_once(
-                rt, alloc, compiled, system, number, &valid, repeats, counts,
+                rt, alloc, judge, system, number, &valid, repeats, counts,
             )
         }
         Err(refused) => {
@@ -165,18 +165,18 @@ fn drive_item_repeatedly_or_report_invalid<R: Threads + Wait>(
 fn drive_items_repeatedly_and_report_each<R: Threads + Wait>(
     rt: &R,
     alloc: Global,
-    compiled: &Compiled,
+    judge: &Judge<'_, Compiled>,
     system: &mut BoxedSystem,
     runs: &[Run],
     repeats: u32,
     counts: &mut ItemResultCounts,
     steps: &ProgressCounter,
 ) -> Result<Vec<Output>, AllocError>
-    requires lawful { AreLawful compiled.now runs.now }
+    requires lawful { AreLawful judge.now.callbacks.now runs.now }
     requires some { 1 ≤ repeats }
     ensures reported { IfOk result (λ reports.
-        AreRepeated compiled.now (answers system.old) (fails system.old) (reset_fails system.old)
-        repeats 1 runs.now reports.items) }
+        AreRepeated judge.now.order judge.now.callbacks.now (answers system.old) (fails system.old)
+        (reset_fails system.old) repeats 1 runs.now reports.items) }
     ensures kept { AreKept (answers system.new) (answers system.old) (fails system.new) (fails system.old)
         (reset_fails system.new) (reset_fails system.old) }
 {
@@ -186,7 +186,7 @@ fn drive_items_repeatedly_and_report_each<R: Threads + Wait>(
         let report = drive_item_repeatedly_or_report_invalid(
             rt,
             alloc,
-            compiled,
+            judge,
             system,
             index + 1,
             &run.shaped,
@@ -203,28 +203,28 @@ fn drive_items_repeatedly_and_report_each<R: Threads + Wait>(
 fn drive_items_repeatedly_and_join_reports<R: Threads + Wait>(
     rt: &R,
     alloc: Global,
-    compiled: &Compiled,
+    judge: &Judge<'_, Compiled>,
     system: &mut BoxedSystem,
     runs: &[Run],
     repeats: u32,
     counts: &mut ItemResultCounts,
     steps: &ProgressCounter,
 ) -> Result<Output, AllocError>
-    requires lawful { AreLawful compiled.now runs.now }
+    requires lawful { AreLawful judge.now.callbacks.now runs.now }
     requires some { 1 ≤ repeats }
     ensures reported { IfOk result (λ output.
-        ReportsAll compiled.now (answers system.old) (fails system.old) (reset_fails system.old)
-        repeats runs.now output.text.items output.status) }
+        ReportsAll judge.now.order judge.now.callbacks.now (answers system.old) (fails system.old)
+        (reset_fails system.old) repeats runs.now output.text.items output.status) }
     ensures kept { AreKept (answers system.new) (answers system.old) (fails system.new) (fails system.old)
         (reset_fails system.new) (reset_fails system.old) }
 {
     let reports = drive_items_repeatedly_and_report_each(
-        rt, alloc, compiled, system, runs, repeats, counts, steps,
+        rt, alloc, judge, system, runs, repeats, counts, steps,
     )?;
     joined_outputs_with_worst_status(alloc, Status::Accepted, reports.as_slice())
 }
 
-/// The reports of the items after the model, each driven `repeats` times, or the first refusal. For each item, from 1,
+/// The reports of the items after the model, each driven `repeats` times and judged by an order, or the first refusal. For each item, from 1,
 /// the report is the run of the first drive that is not explained, or else of the last drive, as one tree, a line
 /// `NUMBER VERDICT`, and a line `NUMBER drives N failed K`: `K` of the `N` drives are not explained. For a case that is
 /// not valid it is a line with the reason alone. If a drive is lost, it is a line `NUMBER lost KIND` alone, and the case
@@ -236,13 +236,14 @@ pub(crate) fn repeat_answer<R: Threads + Wait>(
     alloc: Global,
     input: &[u8],
     system: &mut BoxedSystem,
+    order: CallOrder,
     repeats: u32,
     counts: &mut ItemResultCounts,
     steps: &ProgressCounter,
 ) -> Result<Answer, AllocError>
     requires { 1 ≤ repeats }
     ensures output { IfOk result (Answers
-        (IsRepeatOutput (answers system.old) (fails system.old) (reset_fails system.old) repeats input.now)) }
+        (IsRepeatOutput order (answers system.old) (fails system.old) (reset_fails system.old) repeats input.now)) }
     ensures kept { AreKept (answers system.new) (answers system.old) (fails system.new) (fails system.old)
         (reset_fails system.new) (reset_fails system.old) }
 {
@@ -251,8 +252,10 @@ pub(crate) fn repeat_answer<R: Threads + Wait>(
         Err(answer) => return Ok(answer),
     };
     let runs = runs.as_slice();
+    let callbacks = &compiled;
+    let judge = Judge { callbacks, order };
     let Output { text, status } = drive_items_repeatedly_and_join_reports(
-        rt, alloc, &compiled, system, runs, repeats, counts, steps,
+        rt, alloc, &judge, system, runs, repeats, counts, steps,
     )?;
     Ok(Answer {
         text,

@@ -2,7 +2,7 @@
 ghost use Rattle.std.specs.Prelude.{◌≡◌, false, IfOk, OnOk, string_bytes};
 ghost use Rattle.pst_cli.specs.Answers.{Answers};
 ghost use Rattle.pst_cli.specs.Output.{item_line};
-ghost use Rattle.pst_cli.specs.RunOutput.{AreReported, IsReported, IsRunOutput, status_of_one};
+ghost use Rattle.pst_cli.specs.RunOutput.{AreReported, IsReported, IsRunOutput, IsRunOutputBy, status_of_one};
 ghost use Rattle.pst_cli.specs.Sending.{Prints};
 ghost use Rattle.pst_cli.specs.declared.answer.Status.TheVariants.{Accepted};
 ghost use Rattle.pst_judge.specs.declared.judgement.Judged.TheVariants as kind;
@@ -21,7 +21,7 @@ use crate::judge::is_explained_or_valid;
 use crate::lines::item_verdict_line;
 use pst_case::{Run, Shaped};
 use pst_compile::Compiled;
-use pst_judge::{Judged, Valid, Why, valid};
+use pst_judge::{CallOrder, Judge, Judged, Valid, Why, valid};
 use pst_model::Typed;
 use pst_rejudge::ProgressCounter;
 use pst_runs::run_tree;
@@ -87,20 +87,20 @@ pub(crate) fn invalid_case_line(
 pub(crate) fn drive_and_report_valid_case<R: Threads + Wait>(
     rt: &R,
     alloc: Global,
-    compiled: &Compiled,
+    judge: &Judge<'_, Compiled>,
     system: &mut BoxedSystem,
     number: usize,
     valid: Valid,
     counts: &mut ItemResultCounts,
 ) -> Result<Output, AllocError>
-    requires model { valid.model ≡ compiled.now }
+    requires model { valid.model ≡ judge.now.callbacks.now }
     ensures reported { IfOk result (λ output.
-        IsReported compiled.now (answers system.old) (fails system.old) (reset_fails system.old)
-        number valid.case output.text.items output.status) }
+        IsReported judge.now.order judge.now.callbacks.now (answers system.old) (fails system.old)
+        (reset_fails system.old) number valid.case output.text.items output.status) }
     ensures kept { AreKept (answers system.new) (answers system.old) (fails system.new) (fails system.old)
         (reset_fails system.new) (reset_fails system.old) }
 {
-    let report = drive_case_and_report_item(rt, alloc, compiled, system, number, valid, counts)?;
+    let report = drive_case_and_report_item(rt, alloc, judge, system, number, valid, counts)?;
     output_of_item_report(alloc, number, report)
 }
 
@@ -108,24 +108,22 @@ pub(crate) fn drive_and_report_valid_case<R: Threads + Wait>(
 fn drive_item_once_or_report_invalid<R: Threads + Wait>(
     rt: &R,
     alloc: Global,
-    compiled: &Compiled,
+    judge: &Judge<'_, Compiled>,
     system: &mut BoxedSystem,
     number: usize,
     shaped: &Shaped,
     counts: &mut ItemResultCounts,
 ) -> Result<Output, AllocError>
-    requires model { shaped.now.model ≡ compiled.now }
+    requires model { shaped.now.model ≡ judge.now.callbacks.now }
     ensures reported { IfOk result (λ output.
-        IsReported compiled.now (answers system.old) (fails system.old) (reset_fails system.old)
-        number shaped.now.case output.text.items output.status) }
+        IsReported judge.now.order judge.now.callbacks.now (answers system.old) (fails system.old)
+        (reset_fails system.old) number shaped.now.case output.text.items output.status) }
     ensures kept { AreKept (answers system.new) (answers system.old) (fails system.new) (fails system.old)
         (reset_fails system.new) (reset_fails system.old) }
 {
-    let copy = shaped.copy(alloc, compiled.typed().source())?;
-    match valid(compiled, alloc, copy) {
-        Ok(valid) => drive_and_report_valid_case(
-            rt, alloc, compiled, system, number, valid, counts,
-        ),
+    let copy = shaped.copy(alloc, judge.callbacks.typed().source())?;
+    match valid(judge.callbacks, alloc, copy) {
+        Ok(valid) => drive_and_report_valid_case(rt, alloc, judge, system, number, valid, counts),
         Err(refused) => {
             counts.add_invalid_or_lost(&refused.1);
             let line = invalid_case_line(alloc, number, refused.1)?;
@@ -138,16 +136,16 @@ fn drive_item_once_or_report_invalid<R: Threads + Wait>(
 fn drive_and_report_items<R: Threads + Wait>(
     rt: &R,
     alloc: Global,
-    compiled: &Compiled,
+    judge: &Judge<'_, Compiled>,
     system: &mut BoxedSystem,
     runs: &[Run],
     counts: &mut ItemResultCounts,
     steps: &ProgressCounter,
 ) -> Result<Output, AllocError>
-    requires { AreLawful compiled.now runs.now }
+    requires { AreLawful judge.now.callbacks.now runs.now }
     ensures reported { IfOk result (λ output.
-        AreReported compiled.now (answers system.old) (fails system.old) (reset_fails system.old)
-        1 Accepted runs.now output.text.items output.status) }
+        AreReported judge.now.order judge.now.callbacks.now (answers system.old) (fails system.old)
+        (reset_fails system.old) 1 Accepted runs.now output.text.items output.status) }
     ensures kept { AreKept (answers system.new) (answers system.old) (fails system.new) (fails system.old)
         (reset_fails system.new) (reset_fails system.old) }
 {
@@ -158,7 +156,7 @@ fn drive_and_report_items<R: Threads + Wait>(
         let output = drive_item_once_or_report_invalid(
             rt,
             alloc,
-            compiled,
+            judge,
             system,
             index + 1,
             &run.shaped,
@@ -171,17 +169,18 @@ fn drive_and_report_items<R: Threads + Wait>(
     Ok(Output { text, status })
 }
 
-/// The reports of the items after the model, each driven once, or the first refusal.
+/// The reports of the items after the model, each driven once and judged by an order, or the first refusal.
 pub(crate) fn run_answer<R: Threads + Wait>(
     rt: &R,
     alloc: Global,
     input: &[u8],
     system: &mut BoxedSystem,
+    order: CallOrder,
     counts: &mut ItemResultCounts,
     steps: &ProgressCounter,
 ) -> Result<Answer, AllocError>
     ensures output { IfOk result
-        (Answers (IsRunOutput (answers system.old) (fails system.old) (reset_fails system.old) input.now)) }
+        (Answers (IsRunOutputBy order (answers system.old) (fails system.old) (reset_fails system.old) input.now)) }
     ensures kept { AreKept (answers system.new) (answers system.old) (fails system.new) (fails system.old)
         (reset_fails system.new) (reset_fails system.old) }
 {
@@ -190,8 +189,10 @@ pub(crate) fn run_answer<R: Threads + Wait>(
         Err(answer) => return Ok(answer),
     };
     let runs = runs.as_slice();
+    let callbacks = &compiled;
+    let judge = Judge { callbacks, order };
     let Output { text, status } = drive_and_report_items(
-        rt, alloc, &compiled, system, runs, counts, steps,
+        rt, alloc, &judge, system, runs, counts, steps,
     )?;
     Ok(Answer {
         text,
@@ -225,6 +226,7 @@ pub fn run_text<W: Sink, R: Threads + Wait>(
 {
     let mut counts = ItemResultCounts::new();
     let steps = ProgressCounter::new();
-    let answer = run_answer(rt, alloc, input, system, &mut counts, &steps);
+    let order = CallOrder::Any;
+    let answer = run_answer(rt, alloc, input, system, order, &mut counts, &steps);
     send(&answer, MEMORY_LINE, sink)
 }

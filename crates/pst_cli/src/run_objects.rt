@@ -15,7 +15,7 @@ use crate::repeat::first_failed_or_latest_drive_counts;
 use pst_case::{Run, Shaped};
 use pst_compile::Compiled;
 use pst_driver::DriveFault;
-use pst_judge::{Judged, Valid, Why, valid};
+use pst_judge::{CallOrder, Judge, Judged, Valid, Why, valid};
 use pst_rejudge::{
     Field, FieldName, ProgressCounter, add_number_field, add_text_field, json_object_line,
     judged_item_fields, refused_item_fields,
@@ -92,18 +92,18 @@ impl DrivesSoFar {
 fn drive_copy_of_valid_case<R: Threads + Wait>(
     rt: &R,
     alloc: Global,
-    compiled: &Compiled,
+    judge: &Judge<'_, Compiled>,
     system: &mut BoxedSystem,
     number: usize,
     valid: &Valid,
     drive: &mut ItemResultCounts,
 ) -> Result<ItemReport, AllocError>
-    requires { valid.now.model ≡ compiled.now }
+    requires { valid.now.model ≡ judge.now.callbacks.now }
     ensures { AreKept (answers system.new) (answers system.old) (fails system.new) (fails system.old)
         (reset_fails system.new) (reset_fails system.old) }
 {
-    let copy = valid.copy(alloc, compiled.typed().source())?;
-    drive_case_and_report_item(rt, alloc, compiled, system, number, copy, drive)
+    let copy = valid.copy(alloc, judge.callbacks.typed().source())?;
+    drive_case_and_report_item(rt, alloc, judge, system, number, copy, drive)
 }
 
 /// Drives a valid case `repeats` times, or until a drive is lost, and returns the report to show. Adds to `counts` only
@@ -111,23 +111,21 @@ fn drive_copy_of_valid_case<R: Threads + Wait>(
 fn drive_valid_case_repeatedly<R: Threads + Wait>(
     rt: &R,
     alloc: Global,
-    compiled: &Compiled,
+    judge: &Judge<'_, Compiled>,
     system: &mut BoxedSystem,
     number: usize,
     valid: &Valid,
     repeats: u32,
     counts: &mut ItemResultCounts,
 ) -> Result<ReportWithDriveCounts, AllocError>
-    requires { valid.now.model ≡ compiled.now }
+    requires { valid.now.model ≡ judge.now.callbacks.now }
     ensures { AreKept (answers system.new) (answers system.old) (fails system.new) (fails system.old)
         (reset_fails system.new) (reset_fails system.old) }
 {
     let mut so_far = DrivesSoFar::new();
     for _drive in 0..repeats {
         let mut drive = ItemResultCounts::new();
-        let report = drive_copy_of_valid_case(
-            rt, alloc, compiled, system, number, valid, &mut drive,
-        )?;
+        let report = drive_copy_of_valid_case(rt, alloc, judge, system, number, valid, &mut drive)?;
         if let ItemReport::Lost(_) = report {
             counts.add_counts_and_first_broken_run(drive);
             return Ok(ReportWithDriveCounts {
@@ -151,25 +149,23 @@ fn drive_valid_case_repeatedly<R: Threads + Wait>(
 fn drive_valid_case_as_often_as_asked<R: Threads + Wait>(
     rt: &R,
     alloc: Global,
-    compiled: &Compiled,
+    judge: &Judge<'_, Compiled>,
     system: &mut BoxedSystem,
     number: usize,
     valid: Valid,
     repeats: Option<u32>,
     counts: &mut ItemResultCounts,
 ) -> Result<ReportWithDriveCounts, AllocError>
-    requires { valid.model ≡ compiled.now }
+    requires { valid.model ≡ judge.now.callbacks.now }
     ensures { AreKept (answers system.new) (answers system.old) (fails system.new) (fails system.old)
         (reset_fails system.new) (reset_fails system.old) }
 {
     match repeats {
         Some(repeats) if repeats > 0 => {
-            drive_valid_case_repeatedly(
-                rt, alloc, compiled, system, number, &valid, repeats, counts,
-            )
+            drive_valid_case_repeatedly(rt, alloc, judge, system, number, &valid, repeats, counts)
         }
         _ => Ok(ReportWithDriveCounts {
-            report: drive_case_and_report_item(rt, alloc, compiled, system, number, valid, counts)?,
+            report: drive_case_and_report_item(rt, alloc, judge, system, number, valid, counts)?,
             drives: None,
         }),
     }
@@ -195,21 +191,21 @@ fn count_and_report_invalid_case(
 fn drive_case_or_report_invalid<R: Threads + Wait>(
     rt: &R,
     alloc: Global,
-    compiled: &Compiled,
+    judge: &Judge<'_, Compiled>,
     system: &mut BoxedSystem,
     number: usize,
     shaped: &Shaped,
     repeats: Option<u32>,
     counts: &mut ItemResultCounts,
 ) -> Result<ReportWithDriveCounts, AllocError>
-    requires { shaped.now.model ≡ compiled.now }
+    requires { shaped.now.model ≡ judge.now.callbacks.now }
     ensures { AreKept (answers system.new) (answers system.old) (fails system.new) (fails system.old)
         (reset_fails system.new) (reset_fails system.old) }
 {
-    let copy = shaped.copy(alloc, compiled.typed().source())?;
-    match valid(compiled, alloc, copy) {
+    let copy = shaped.copy(alloc, judge.callbacks.typed().source())?;
+    match valid(judge.callbacks, alloc, copy) {
         Ok(valid) => drive_valid_case_as_often_as_asked(
-            rt, alloc, compiled, system, number, valid, repeats, counts,
+            rt, alloc, judge, system, number, valid, repeats, counts,
         ),
         Err(refused) => count_and_report_invalid_case(refused.1, counts),
     }
@@ -285,14 +281,14 @@ fn item_report_json_line(
 fn drive_items_and_join_json_objects<R: Threads + Wait>(
     rt: &R,
     alloc: Global,
-    compiled: &Compiled,
+    judge: &Judge<'_, Compiled>,
     system: &mut BoxedSystem,
     runs: &[Run],
     repeats: Option<u32>,
     counts: &mut ItemResultCounts,
     steps: &ProgressCounter,
 ) -> Result<Output, AllocError>
-    requires { AreLawful compiled.now runs.now }
+    requires { AreLawful judge.now.callbacks.now runs.now }
     ensures { AreKept (answers system.new) (answers system.old) (fails system.new) (fails system.old)
         (reset_fails system.new) (reset_fails system.old) }
 {
@@ -304,7 +300,7 @@ fn drive_items_and_join_json_objects<R: Threads + Wait>(
         let reported = drive_case_or_report_invalid(
             rt,
             alloc,
-            compiled,
+            judge,
             system,
             number,
             &run.shaped,
@@ -339,6 +335,7 @@ pub(crate) fn run_object_answer<R: Threads + Wait>(
     alloc: Global,
     input: &[u8],
     system: &mut BoxedSystem,
+    order: CallOrder,
     repeats: Option<u32>,
     counts: &mut ItemResultCounts,
     steps: &ProgressCounter,
@@ -357,15 +354,10 @@ pub(crate) fn run_object_answer<R: Threads + Wait>(
         Err(fault) => return refused_run_object_answer(alloc, &fault),
     };
     let runs = runs.as_slice();
+    let callbacks = &file.compiled;
+    let judge = Judge { callbacks, order };
     let Output { text, status } = drive_items_and_join_json_objects(
-        rt,
-        alloc,
-        &file.compiled,
-        system,
-        runs,
-        repeats,
-        counts,
-        steps,
+        rt, alloc, &judge, system, runs, repeats, counts, steps,
     )?;
     Ok(Answer {
         text,

@@ -12,6 +12,7 @@ use crate::counts::ItemResultCounts;
 use crate::input::{compile_model_of_input, prove_compiled_models_are_sync};
 use crate::keep::{numbered_item_result_lines, worst_status_after_item_results};
 use pst_compile::Compiled;
+use pst_judge::{CallOrder, Judge};
 use pst_rejudge::{ItemResult, ProgressCounter, StreamFault, read_once_and_judge_ended_lines};
 use pst_sexpr::{Sink, WriteFailed, put_all};
 use std::alloc::{AllocError, Global};
@@ -85,7 +86,7 @@ fn cut_for_stream_fault(fault: StreamFault) -> Cut
 fn judge_stream_and_write_lines<I: Read, W: Sink, R: Threads + Sync, L: RefusedLineReceiver>(
     rt: &R,
     alloc: Global,
-    compiled: &Compiled,
+    judge: &Judge<'_, Compiled>,
     reader: &mut I,
     counts: &mut ItemResultCounts,
     steps: &ProgressCounter,
@@ -93,7 +94,7 @@ fn judge_stream_and_write_lines<I: Read, W: Sink, R: Threads + Sync, L: RefusedL
     sink: &mut W,
 ) -> Result<Status, Cut>
     requires { W.broken sink.old ≡ false }
-    ensures { EndsStream compiled.now (I.remaining reader.old) (W.taken sink.old) (W.taken sink.new)
+    ensures { EndsStream judge.now.order judge.now.callbacks.now (I.remaining reader.old) (W.taken sink.old) (W.taken sink.new)
         (W.broken sink.new) result }
 {
     let Ok(mut buffer) = vec![in alloc; 0u8; BUFFER] else {
@@ -109,9 +110,9 @@ fn judge_stream_and_write_lines<I: Read, W: Sink, R: Threads + Sync, L: RefusedL
         let begun = copy_begun_line_if_wanted(alloc, refused, kept.as_slice());
         let block = match read_once_and_judge_ended_lines(
             rt,
-            compiled,
+            judge,
             alloc,
-            compiled.typed(),
+            judge.callbacks.typed(),
             reader,
             buffer.as_mut_slice(),
             &mut kept,
@@ -144,7 +145,7 @@ fn judge_stream_and_write_lines<I: Read, W: Sink, R: Threads + Sync, L: RefusedL
 fn write_stream<I: Read, W: Sink, R: Threads + Sync, L: RefusedLineReceiver>(
     rt: &R,
     alloc: Global,
-    compiled: &Compiled,
+    judge: &Judge<'_, Compiled>,
     reader: &mut I,
     counts: &mut ItemResultCounts,
     steps: &ProgressCounter,
@@ -152,10 +153,11 @@ fn write_stream<I: Read, W: Sink, R: Threads + Sync, L: RefusedLineReceiver>(
     sink: &mut W,
 ) -> Status
     requires { W.broken sink.old ≡ false }
-    ensures { (input bytes : List ℕ) (trees : List Form) → Holds input compiled.now trees → I.remaining reader.old ≡ Some bytes
-        → SendsOne (IsStreamOutput input bytes) (W.taken sink.old) (W.taken sink.new) (W.broken sink.new) result }
+    ensures { (input bytes : List ℕ) (trees : List Form) → Holds input judge.now.callbacks.now trees
+        → I.remaining reader.old ≡ Some bytes
+        → SendsOne (IsStreamOutput judge.now.order input bytes) (W.taken sink.old) (W.taken sink.new) (W.broken sink.new) result }
 {
-    match judge_stream_and_write_lines(rt, alloc, compiled, reader, counts, steps, refused, sink) {
+    match judge_stream_and_write_lines(rt, alloc, judge, reader, counts, steps, refused, sink) {
         Ok(status) => status,
         Err(Cut::Unread) => send_text(b"refused file\n", Status::Refused, sink),
         Err(Cut::NoMemory) => send_text(MEMORY_LINE, Status::Lost, sink),
@@ -163,7 +165,7 @@ fn write_stream<I: Read, W: Sink, R: Threads + Sync, L: RefusedLineReceiver>(
     }
 }
 
-/// Judges the items of a reader, one on each line, over the model at the start of the input. For each line, from 1,
+/// Judges the items of a reader by an order, one on each line, over the model at the start of the input. For each line, from 1,
 /// writes `NUMBER VERDICT`, or `refused run NUMBER command C KIND`. Refuses a line as `BadForm` if it spells no item or
 /// more than one, or is longer than a file may be. Judges all lines that end within one read of the reader, several at
 /// once, and writes their verdicts before the next read; keeps no more of the reader in memory. `refused` then gets the
@@ -177,6 +179,7 @@ pub fn judge_stream<I: Read, F: Sink, W: Sink, R: Threads + Sync, L: RefusedLine
     rt: &R,
     alloc: Global,
     input: &[u8],
+    order: CallOrder,
     reader: &mut I,
     counts: &mut ItemResultCounts,
     steps: &ProgressCounter,
@@ -185,7 +188,7 @@ pub fn judge_stream<I: Read, F: Sink, W: Sink, R: Threads + Sync, L: RefusedLine
 ) -> Status
     requires stands { Stands F.broken W.broken to.old }
     ensures prints { (bytes : List ℕ) → I.remaining reader.old ≡ Some bytes
-        → Reaches memory_line (IsStreamOutput input.now bytes)
+        → Reaches memory_line (IsStreamOutput order input.now bytes)
         (Delivers F.taken F.broken W.taken W.broken to.old to.new result) }
 {
     let compiled = match compile_model_of_input(alloc, input) {
@@ -193,12 +196,14 @@ pub fn judge_stream<I: Read, F: Sink, W: Sink, R: Threads + Sync, L: RefusedLine
         Ok(Err(refusal)) => return deliver(&refusal_answer(alloc, &refusal), MEMORY_LINE, to),
         Err(AllocError) => return deliver(&Err(AllocError), MEMORY_LINE, to),
     };
+    let callbacks = &compiled;
+    let judge = Judge { callbacks, order };
     match &mut to.file {
-        Some(file) => write_stream(rt, alloc, &compiled, reader, counts, steps, refused, file),
+        Some(file) => write_stream(rt, alloc, &judge, reader, counts, steps, refused, file),
         None => write_stream(
             rt,
             alloc,
-            &compiled,
+            &judge,
             reader,
             counts,
             steps,

@@ -1,4 +1,4 @@
-//! Where the lines of a client come from, and where the lines for it go.
+//! The two ends of a client's pipes: a source of its lines, and a sink for the lines that it reads.
 ghost use Rattle.std.specs.Prelude.{◌≡◌, ◌≢◌, ◌≤◌, [], ◌∷◌, ◌++◌, ⊤, Some, All, IfOk, IfErr, IfSome, OnOk, OnErr, length};
 ghost use Rattle.std.specs.Io.KnownBytes.{Appends, Consumes};
 ghost use Rattle.pst_clients.specs.Lines.{IsShortLine};
@@ -11,7 +11,7 @@ use std::io::{self, BufReader, Read, Write};
 /// The maximum number of bytes of a line of a client, its end not counted.
 pub const MAX_LINE: usize = 1_048_576;
 
-/// Where the lines of a client come from.
+/// A source of the lines of a client.
 ///
 /// What is known of a line is known of all sources of the type, so that it stays known through a lock.
 pub trait LineSource {
@@ -41,7 +41,7 @@ pub trait LineSource {
         ensures { IfSome result (λ _. may_run_ahead) };
 }
 
-/// Where the lines for a client go.
+/// A sink for the lines that a client reads.
 pub trait LineSink {
     ghost use Rattle.std.specs.Prelude.{ℕ, List, Option};
 
@@ -140,7 +140,7 @@ impl<W: Write> LineSink for CallPipe<W> {
     }
 }
 
-/// Lines that are kept.
+/// A sink that keeps the lines.
 impl LineSink for Vec<u8> {
     ghost contents = { ⟦<Vec<u8> as Write>⟧.contents };
 

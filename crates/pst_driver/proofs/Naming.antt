@@ -1,5 +1,5 @@
 -- What a system does whose relations have names, and what threads do that know the names alone.
-use Rattle.std.proofs.Common.{◌≡◌, ◌∷◌, [], ◌<◌, length, length-append, List, Option, MatchBool, Bool, true, false, arith, map, refl}
+use Rattle.std.proofs.Common.{◌≡◌, ◌∷◌, [], ◌<◌, length, length-append, List, Option, None, MatchBool, Bool, true, false, arith, map, refl}
 use Rattle.std.specs.Prelude.{IsTrue, ◌↔◌}
 use Rattle.pst_case.specs.Recorded.{recorded, result_of}
 use Rattle.pst_case.specs.Matches.{replies_of}
@@ -43,10 +43,10 @@ module _ {A A' : Answers} {F F' : Fails} {R R' : ResetFails} (kept : AreKept A A
       → IsShaped m c → PartRuns m A F [] c.prefix prefix
       → MatchBool (all_answers prefix) (BranchesRun m A' F' (map result_of prefix) c.branches branches)
       (branches ≡ map none_run c.branches)
-      → (let so_far : History = record { prefix = prefix; branches = branches; suffix = [] } in
+      → (let so_far : History = record { prefix = prefix; branches = branches; suffix = []; times = None } in
       MatchBool (all_answers (replies_of so_far)) (PartRuns m A F (recorded so_far) c.suffix suffix)
       (suffix ≡ none_run c.suffix))
-      → IsDriven m A' F' c (record { prefix = prefix; branches = branches; suffix = suffix })
+      → IsDriven m A' F' c (record { prefix = prefix; branches = branches; suffix = suffix; times = None })
   kept_driven c prefix branches suffix shaped before between after =
       all_driven m A' A' F' F' c prefix branches suffix
       (record { answers = λ k v h. h; fails = λ k f h. h }) shaped

@@ -3,6 +3,7 @@ use Rattle.std.specs.Prelude.{◌≡◌, ◌<◌, ◌++◌, ⊤, Bool, List, [],
 use Rattle.std.specs.List.{list_all}
 use Rattle.pst_case.specs.Shape.{joined, is_known}
 use Rattle.pst_case.specs.declared.case.Command.{Command}
+use Rattle.pst_case.specs.declared.history.History.{History}
 use Rattle.pst_case.specs.declared.history.Reply.{Reply}
 use Rattle.pst_case.specs.declared.history.Reply.TheVariants.{Value as Answered, Misfit, Failed, NotRun}
 use Rattle.pst_driver.specs.Driven.{IsRealReply, none_run}
@@ -53,3 +54,8 @@ abbrev pub IsPartFault : DriveFault → Type 0
 IsPartFault ResetFailed = ⊥
 IsPartFault NoThread = ⊤
 IsPartFault NoMemory = ⊤
+
+-- a history that is as another, but for its times
+abbrev pub IsSameButTimes : History → History → Type 0
+IsSameButTimes h timed =
+    timed ≡ record { prefix = h.prefix; branches = h.branches; suffix = h.suffix; times = timed.times }

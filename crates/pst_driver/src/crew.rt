@@ -5,6 +5,7 @@ ghost use Rattle.pst_driver.specs.Progress.{all_known};
 ghost use Rattle.pst_system.specs.Kept.{AreKept};
 
 use crate::branches::{STACK_BYTES, copy_known_results, prove_model_is_sync};
+use crate::clock::{CallClock, CallSite};
 use crate::desk::{Delivery, Desk, WorkOrder};
 use crate::driving::DriveFault;
 use crate::part::call_commands_while_replies_are_values;
@@ -50,11 +51,13 @@ pub struct Crew<J: Relations, S: Subject> {
     /// How many threads have started.
     started: AtomicU64,
     desks: Desks<J>,
+    /// Records the times of the calls of each drive, if there is one.
+    pub(crate) clock: Option<CallClock>,
 }
 
 impl<J: Relations, S: Subject> Crew<J, S> {
-    /// A crew with no thread yet.
-    pub fn new(system: SystemWithRelations<J, S>) -> Crew<J, S> {
+    /// A crew with no thread yet. With a clock each drive records the times of the calls of its branches.
+    pub fn new(system: SystemWithRelations<J, S>, clock: Option<CallClock>) -> Crew<J, S> {
         Crew {
             system: RwLock::new(system),
             arrivals: StartBarrier::new(0),
@@ -65,6 +68,7 @@ impl<J: Relations, S: Subject> Crew<J, S> {
                 third: Desk::new(),
                 fourth: Desk::new(),
             },
+            clock,
         }
     }
 
@@ -120,13 +124,13 @@ fn copy_known_results_with_spare_capacity(
     Ok(known)
 }
 
-/// Runs an order from `branch`, with a copy of the results that are known before it. `NoThread`: the model does
+/// Runs an order from `site`, with a copy of the results that are known before it. `NoThread`: the model does
 /// not have an operation that it calls. `NoMemory`: an allocation failed.
 fn run_work_order<J: Relations, S: Subject>(
     alloc: Global,
     typed: &Typed,
     system: &SystemWithRelations<J, S>,
-    branch: u32,
+    site: CallSite,
     order: WorkOrder,
     known: Result<Vec<Option<Value>>, AllocError>,
 ) -> Result<Delivery<J>, DriveFault>
@@ -141,7 +145,7 @@ fn run_work_order<J: Relations, S: Subject>(
         alloc,
         typed,
         system.system(),
-        branch,
+        site,
         commands,
         known?,
     )?;
@@ -155,7 +159,7 @@ fn run_work_orders_until_dismissed<J: Relations, S: Subject, R: Wait>(
     system: &RwLock<SystemWithRelations<J, S>>,
     arrivals: &StartBarrier,
     desk: &Desk<J>,
-    branch: u32,
+    site: CallSite,
 )
     requires { typed.now ≡ J.model }
 {
@@ -170,7 +174,7 @@ fn run_work_orders_until_dismissed<J: Relations, S: Subject, R: Wait>(
         let known = copy_known_results_with_spare_capacity(alloc, &order);
         let held = system.read(&waiter);
         arrivals.arrive_and_wait_with_limit::<R>();
-        let done = run_work_order(alloc, typed, &*held, branch, order, known);
+        let done = run_work_order(alloc, typed, &*held, site, order, known);
         drop(held);
         *desk.done.lock(&waiter) = Some(done);
         desk.answered.ring();
@@ -206,6 +210,7 @@ fn start_crew_branch_thread<'s, E, J: Relations + Send + Sync, S: Subject + Send
     prove_sync::<Mutex<Option<WorkOrder>>>();
     prove_sync::<Mutex<Option<Result<Delivery<J>, DriveFault>>>>();
     prove_sync::<Desk<J>>();
+    prove_sync::<CallClock>();
     prove_send::<SystemWithRelations<J, S>>();
     prove_sync::<SystemWithRelations<J, S>>();
     prove_sync::<RwLock<SystemWithRelations<J, S>>>();
@@ -214,9 +219,13 @@ fn start_crew_branch_thread<'s, E, J: Relations + Send + Sync, S: Subject + Send
     };
     let system = &crew.system;
     let arrivals = &crew.arrivals;
+    let site = CallSite {
+        branch: number,
+        clock: crew.clock.as_ref(),
+    };
     let run = move ||
         requires { typed.now ≡ J.model }
-    { run_work_orders_until_dismissed::<J, S, R>(alloc, typed, system, arrivals, desk, number) };
+    { run_work_orders_until_dismissed::<J, S, R>(alloc, typed, system, arrivals, desk, site) };
     let stack = Stack::new().stack_size(STACK_BYTES);
     stack.spawn_scoped_with(scope, Anything, run).is_ok()
 }

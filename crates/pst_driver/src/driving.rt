@@ -1,15 +1,17 @@
 //! Driving a whole case, and why a case was not driven.
-ghost use Rattle.std.specs.Prelude.{◌≡◌, ◌∷◌, [], true, IfOk, IfErr, MatchBool, MatchOption, map};
+ghost use Rattle.std.specs.Prelude.{◌≡◌, ◌∷◌, [], true, None, IfOk, IfErr, MatchBool, MatchOption, map};
 ghost use Rattle.pst_driver.specs.FaultName.{fault_name};
 ghost use Rattle.pst_case.specs.Matches.{matches, replies_of};
 ghost use Rattle.pst_case.specs.Recorded.{recorded, result_of};
 ghost use Rattle.pst_case.specs.Shape.{IsShaped, joined};
+ghost use Rattle.pst_case.specs.Times.{AreTimed};
 ghost use Rattle.pst_driver.specs.Driven.{IsDriven, IsDriveFault, all_answers, none_run};
 ghost use Rattle.pst_driver.specs.Progress.{PartRuns, BranchesRun, IsBranchFault, all_known};
 ghost use Rattle.std.specs.List.{list_all};
 ghost use Rattle.pst_system.specs.Kept.{AreKept};
 
 use crate::branches::run_branches_on_threads;
+use crate::clock::{CallClock, CallSite, Meeting, history_with_times};
 use crate::part::{add_not_run_replies, call_commands_while_replies_are_values};
 use crate::subject::Subject;
 use pst_case::{Case, Command, History, Reply, results_of_replies};
@@ -115,12 +117,14 @@ pub(crate) fn not_run_replies_of_branches(
     Ok(all)
 }
 
-/// The replies of the branches, which run at once if the whole prefix has values, and else not at all.
+/// The replies of the branches, which run at once if the whole prefix has values, and else not at all. `meeting` has
+/// the clock of their calls.
 fn run_branches_if_prefix_has_values<S: Subject + Sync, R: Threads + Wait>(
     rt: &R,
     alloc: Global,
     typed: &Typed,
     system: &S,
+    meeting: &Meeting,
     branches: &[Items<Command>],
     prefix: &[Reply],
 ) -> Result<Items<Items<Reply>>, DriveFault>
@@ -135,7 +139,7 @@ fn run_branches_if_prefix_has_values<S: Subject + Sync, R: Threads + Wait>(
         return Ok(not_run_replies_of_branches(alloc, branches)?);
     }
     let known = results_of_replies(alloc, prefix)?;
-    run_branches_on_threads(rt, alloc, typed, system, branches, known)
+    run_branches_on_threads(rt, alloc, typed, system, meeting, branches, known)
 }
 
 /// The replies of the suffix, which runs if each reply before it is a value, and else not at all.
@@ -158,18 +162,21 @@ pub(crate) fn run_suffix_if_replies_are_values<S: Subject>(
         return Ok(replies);
     }
     let known = so_far.recorded(alloc)?;
-    call_commands_while_replies_are_values(alloc, typed, system, 0, suffix, known)
+    let site = CallSite::outside_branches();
+    call_commands_while_replies_are_values(alloc, typed, system, site, suffix, known)
 }
 
-/// Drives a case that has the shape of the model.
+/// Drives a case that has the shape of the model. The branches come together at `meeting`. The history has no times.
 fn drive_shaped_case<S: Subject + Sync, R: Threads + Wait>(
     rt: &R,
     alloc: Global,
     typed: &Typed,
     system: &mut S,
     case: &Case,
+    meeting: &Meeting,
 ) -> Result<History, DriveFault>
     requires shaped { IsShaped typed.now case.now }
+    ensures untimed { IfOk result (λ h. h.times ≡ None) }
     ensures driven { IfOk result (λ h.
         IsDriven typed.now (S.may_answer system.old) (S.may_fail system.old) case.now h) }
     ensures fault { IfErr result (λ e. IsDriveFault (S.may_refuse_reset system.old) case.now e) }
@@ -185,7 +192,7 @@ fn drive_shaped_case<S: Subject + Sync, R: Threads + Wait>(
         alloc,
         typed,
         system,
-        0,
+        CallSite::outside_branches(),
         case.prefix.as_slice(),
         Vec::new(alloc),
     )?;
@@ -195,6 +202,7 @@ fn drive_shaped_case<S: Subject + Sync, R: Threads + Wait>(
         alloc,
         typed,
         system,
+        meeting,
         branches,
         prefix.as_slice(),
     )?;
@@ -202,6 +210,7 @@ fn drive_shaped_case<S: Subject + Sync, R: Threads + Wait>(
         prefix,
         branches,
         suffix: Items::new(alloc),
+        times: None,
     };
     let suffix = run_suffix_if_replies_are_values(
         alloc,
@@ -219,12 +228,13 @@ fn drive_shaped_case<S: Subject + Sync, R: Threads + Wait>(
         prefix,
         branches,
         suffix,
+        times: None,
     })
 }
 
 /// Drives a valid case on a system: resets it, calls the commands of the prefix, runs the branches at once,
 /// each that is not empty on a thread of its own, and calls the commands of the suffix once all branches have
-/// ended. Returns the history of the replies. The arguments of each call are plain, with recorded results for
+/// ended. Returns the history of the replies, without times. The arguments of each call are plain, with recorded results for
 /// variables. After an answer that is no value of the result type, or a call that failed, the rest of its part
 /// does not run; after one in the prefix no branch does, and after one anywhere the suffix does not.
 ///
@@ -245,9 +255,38 @@ pub fn run<R: Threads + Wait>(
     ensures matches { IfOk result (λ h. matches typed.now valid.now.case h ≡ true) }
     ensures driven { IfOk result (λ h.
         IsDriven typed.now (answers system.old) (fails system.old) valid.now.case h) }
+    ensures untimed { IfOk result (λ h. h.times ≡ None) }
     ensures fault { IfErr result (λ e. IsDriveFault (reset_fails system.old) valid.now.case e) }
     ensures kept { AreKept (answers system.new) (answers system.old) (fails system.new) (fails system.old)
         (reset_fails system.new) (reset_fails system.old) }
 {
-    drive_shaped_case(rt, alloc, typed, system, valid.shaped().case())
+    let meeting = Meeting::untimed(alloc);
+    drive_shaped_case(rt, alloc, typed, system, valid.shaped().case(), &meeting)
+}
+
+/// Does what [`run`] does, and records when each call of the branches was invoked and when it completed, all on one
+/// counter. No contract promises anything of time itself.
+pub fn run_timed<R: Threads + Wait>(
+    rt: &R,
+    alloc: Global,
+    typed: &Typed,
+    system: &mut BoxedSystem,
+    valid: &Valid,
+) -> Result<History, DriveFault>
+    requires model { valid.now.model ≡ typed.now }
+    ensures matches { IfOk result (λ h. matches typed.now valid.now.case h ≡ true) }
+    ensures driven { IfOk result (λ h.
+        IsDriven typed.now (answers system.old) (fails system.old) valid.now.case h) }
+    ensures timed { IfOk result AreTimed }
+    ensures fault { IfErr result (λ e. IsDriveFault (reset_fails system.old) valid.now.case e) }
+    ensures kept { AreKept (answers system.new) (answers system.old) (fails system.new) (fails system.old)
+        (reset_fails system.new) (reset_fails system.old) }
+{
+    let meeting = Meeting::timed(CallClock::new(alloc)?);
+    let case = valid.shaped().case();
+    let history = match drive_shaped_case(rt, alloc, typed, system, case, &meeting) {
+        Ok(history) => history,
+        Err(fault) => return Err(fault),
+    };
+    Ok(history_with_times(alloc, &meeting.clock, history)?)
 }

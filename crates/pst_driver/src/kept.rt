@@ -1,15 +1,17 @@
 //! Driving a whole case with the threads of a crew.
-ghost use Rattle.std.specs.Prelude.{◌≡◌, true, IfOk, IfErr, MatchBool, MatchResult, map};
+ghost use Rattle.std.specs.Prelude.{◌≡◌, true, None, IfOk, IfErr, MatchBool, MatchResult, map};
 ghost use Rattle.std.specs.List.{list_all};
 ghost use Rattle.pst_case.specs.Matches.{matches};
 ghost use Rattle.pst_case.specs.Recorded.{result_of};
 ghost use Rattle.pst_case.specs.Shape.{IsShaped};
+ghost use Rattle.pst_case.specs.Times.{AreTimed};
 ghost use Rattle.pst_driver.specs.Driven.{IsDriven, IsDriveFault, all_answers, none_run};
 ghost use Rattle.pst_driver.specs.Progress.{BranchesRun, IsBranchFault};
 
 use crate::branches::{
     add_unknown_results_of_commands, copy_known_results, count_branches_with_commands,
 };
+use crate::clock::{CallSite, history_with_times, start_clock};
 use crate::crew::Crew;
 use crate::desk::WorkOrder;
 use crate::driving::{
@@ -103,6 +105,7 @@ fn run_crew_branches_if_prefix_has_values<J: Relations, S: Subject, R: Wait>(
         (hs ≡ map none_run branches.now)) }
     ensures fault { IfErr result (λ e. IsBranchFault branches.now e) }
 {
+    start_clock(crew.clock.as_ref());
     if !are_all_replies_values(prefix) {
         return Ok(not_run_replies_of_branches(alloc, branches)?);
     }
@@ -112,7 +115,7 @@ fn run_crew_branches_if_prefix_has_values<J: Relations, S: Subject, R: Wait>(
     run_branches_with_crew(rt, alloc, crew, 0, branches, known)
 }
 
-/// Drives a case that has the shape of the model.
+/// Drives a case that has the shape of the model. The history has no times.
 fn reset_and_drive_case_with_crew<J: Relations, S: Subject, R: Wait>(
     rt: &R,
     alloc: Global,
@@ -121,6 +124,7 @@ fn reset_and_drive_case_with_crew<J: Relations, S: Subject, R: Wait>(
     case: &Case,
 ) -> Result<History, DriveFault>
     requires shaped { IsShaped typed.now case.now }
+    ensures untimed { IfOk result (λ h. h.times ≡ None) }
     ensures driven { IfOk result (λ h. typed.now ≡ J.model
         → IsDriven typed.now J.answering J.failing case.now h) }
     ensures fault { IfErr result (λ e. IsDriveFault J.resetting case.now e) }
@@ -134,7 +138,7 @@ fn reset_and_drive_case_with_crew<J: Relations, S: Subject, R: Wait>(
         alloc,
         typed,
         system,
-        0,
+        CallSite::outside_branches(),
         case.prefix.as_slice(),
         Vec::new(alloc),
     )?;
@@ -149,6 +153,7 @@ fn reset_and_drive_case_with_crew<J: Relations, S: Subject, R: Wait>(
         prefix,
         branches,
         suffix: Items::new(alloc),
+        times: None,
     };
     let suffix = run_suffix_if_replies_are_values(
         alloc,
@@ -166,6 +171,7 @@ fn reset_and_drive_case_with_crew<J: Relations, S: Subject, R: Wait>(
         prefix,
         branches,
         suffix,
+        times: None,
     })
 }
 
@@ -184,7 +190,8 @@ fn fault_by_whether_branches_have_commands(branches: &[Items<Command>]) -> Drive
 }
 
 /// Does what `run` does, on the system of a crew and with its threads, which are to run by the same model. Its
-/// own thread runs each branch that is not empty. No other call may drive the crew meanwhile.
+/// own thread runs each branch that is not empty. No other call may drive the crew meanwhile. If the crew has a
+/// clock, the history has the times of the calls of the branches.
 ///
 /// The faults are those of `run`. `NoThread`: the thread of a branch has not started. The history is compared
 /// with the model once more at the end, since no contract here says that the threads run by the same one.
@@ -199,6 +206,7 @@ pub fn drive_case_with_crew_and_check<J: Relations, S: Subject, R: Wait>(
     ensures matches { IfOk result (λ h. matches typed.now valid.now.case h ≡ true) }
     ensures driven { IfOk result (λ h. valid.now.model ≡ J.model
         → IsDriven valid.now.model J.answering J.failing valid.now.case h) }
+    ensures timed { IfOk result AreTimed }
     ensures fault { IfErr result (λ e. IsDriveFault J.resetting valid.now.case e) }
 {
     let shaped = valid.shaped();
@@ -206,6 +214,10 @@ pub fn drive_case_with_crew_and_check<J: Relations, S: Subject, R: Wait>(
     let history = match reset_and_drive_case_with_crew(rt, alloc, crew, typed, case) {
         Ok(history) => history,
         Err(fault) => return Err(fault),
+    };
+    let history = match &crew.clock {
+        Some(clock) => history_with_times(alloc, clock, history)?,
+        None => history,
     };
     if history.matches(typed, shaped) {
         Ok(history)

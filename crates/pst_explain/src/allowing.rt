@@ -1,14 +1,13 @@
 //! What the model allows in place of an answer of a core.
-ghost use Rattle.std.specs.Prelude.{◌≡◌, true, None};
-ghost use Rattle.pst_case.specs.Matches.{matches};
-ghost use Rattle.pst_case.specs.Recorded.{recorded};
-ghost use Rattle.pst_judge.specs.Verdict.{first_broken};
+ghost use Rattle.std.specs.Prelude.{◌≡◌};
+ghost use Rattle.pst_reasons.specs.Answered.{IsAnsweredRun};
 
 use crate::bounded::StepLimitedCallbacks;
-use pst_case::{History, Reply};
+use pst_case::Reply;
 use pst_eval::{Callbacks, Env};
+use pst_model::Source;
 use pst_reasons::{
-    AllowedValues, AnswerProposer, AnswerQuestion, RecordedRun, append_numbers_without,
+    AllowedValues, AnswerProposer, AnswerQuestion, Order, RecordedRun, append_numbers_without,
     find_allowed_values, interleaving_where_answers_are_wrong,
 };
 use pst_scene::{
@@ -107,75 +106,74 @@ fn why_answer_is_wrong_in_interleaving<'a>(
     }))
 }
 
-/// Returns why the postcondition of a command is not true in the lexicographically first interleaving in which the rest
-/// of the core is right and it is not, if there is one. `AllocError` too if `callbacks` have no steps left.
-pub fn why_answer_contradicts_rest_of_core<'a, C: Callbacks>(
-    callbacks: &StepLimitedCallbacks<'_, C>,
-    alloc: Global,
-    scene: &Scene<'a>,
-    history: &History,
+/// Returns the lexicographically first interleaving in order in which the commands of a core but `number` are right, if
+/// there is one.
+fn interleaving_where_rest_of_core_is_right<C: Callbacks, O: Order>(
+    run: &RecordedRun<'_, C, O>,
+    model: &Source,
     core: &[u32],
-    call: &Call<'_>,
-) -> Result<Option<WrongAnswer<'a>>, AllocError>
-    requires model { scene.now.model.now ≡ C.model callbacks.now.callbacks.now }
-    requires shaped { scene.now.run.now.shaped.model ≡ C.model callbacks.now.callbacks.now }
-    requires matches { matches (C.model callbacks.now.callbacks.now) scene.now.run.now.shaped.case history.now
-        ≡ true }
-    requires answered { first_broken 1 (recorded history.now) ≡ None }
+    number: u32,
+) -> Result<Option<Vec<usize>>, AllocError>
+    requires model { model.now ≡ C.model run.now.callbacks.now }
+    requires answered { let r = run.now in
+        IsAnsweredRun (C.model r.callbacks.now) (O.order r.order.now) r.shaped.now r.history.now }
 {
-    let number = call.number;
-    let others = append_numbers_without(number, core, Vec::new(alloc))?;
-    let run = RecordedRun {
-        callbacks,
-        alloc,
-        shaped: &scene.run.shaped,
-        history,
-    };
+    let others = append_numbers_without(number, core, Vec::new(run.alloc))?;
     let question = AnswerQuestion {
-        run: &run,
-        model: scene.model,
+        run,
+        model,
         others: others.as_slice(),
         number,
     };
-    let merge = interleaving_where_answers_are_wrong(&question, &[])?;
-    callbacks.charge_calls_like_longest_or_fail(scene.all.len())?;
+    interleaving_where_answers_are_wrong(&question, &[])
+}
+
+/// Returns why the postcondition of a command is not true in the lexicographically first interleaving in order in which
+/// the rest of the core is right and it is not, if there is one. `AllocError` too if the callbacks have no steps left.
+pub fn why_answer_contradicts_rest_of_core<'a, C: Callbacks, O: Order>(
+    run: &RecordedRun<'_, StepLimitedCallbacks<'_, C>, O>,
+    scene: &Scene<'a>,
+    core: &[u32],
+    call: &Call<'_>,
+) -> Result<Option<WrongAnswer<'a>>, AllocError>
+    requires model { scene.now.model.now ≡ C.model run.now.callbacks.now.callbacks.now }
+    requires answered { let r = run.now in
+        IsAnsweredRun (C.model r.callbacks.now.callbacks.now) (O.order r.order.now) r.shaped.now r.history.now }
+{
+    let merge = interleaving_where_rest_of_core_is_right(run, scene.model, core, call.number)?;
+    run.callbacks
+        .charge_calls_like_longest_or_fail(scene.all.len())?;
     match merge {
-        Some(interleaving) => why_answer_is_wrong_in_interleaving(alloc, scene, call, interleaving),
+        Some(interleaving) => why_answer_is_wrong_in_interleaving(
+            run.alloc,
+            scene,
+            call,
+            interleaving,
+        ),
         None => Ok(None),
     }
 }
 
-/// Returns what the model allows in place of the answer of a command of a core, in the interleavings in which the rest
-/// of the core is right. It evaluates the postcondition by recursion: the deepest valid model takes some tens of MiB of
-/// stack. `AllocError` too if `callbacks` have no steps left.
-pub fn allowed_answers_for_explanation<C: Callbacks>(
-    callbacks: &StepLimitedCallbacks<'_, C>,
-    alloc: Global,
+/// Returns what the model allows in place of the answer of a command of a core, in the interleavings in order in which
+/// the rest of the core is right. It evaluates the postcondition by recursion: the deepest valid model takes some tens of
+/// MiB of stack. `AllocError` too if the callbacks have no steps left.
+pub fn allowed_answers_for_explanation<C: Callbacks, O: Order>(
+    run: &RecordedRun<'_, StepLimitedCallbacks<'_, C>, O>,
     scene: &Scene<'_>,
-    history: &History,
     core: &[u32],
     call: &Call<'_>,
 ) -> Result<AllowedValues, AllocError>
-    requires model { scene.now.model.now ≡ C.model callbacks.now.callbacks.now }
-    requires shaped { scene.now.run.now.shaped.model ≡ C.model callbacks.now.callbacks.now }
-    requires matches { matches (C.model callbacks.now.callbacks.now) scene.now.run.now.shaped.case history.now
-        ≡ true }
-    requires answered { first_broken 1 (recorded history.now) ≡ None }
+    requires model { scene.now.model.now ≡ C.model run.now.callbacks.now.callbacks.now }
+    requires answered { let r = run.now in
+        IsAnsweredRun (C.model r.callbacks.now.callbacks.now) (O.order r.order.now) r.shaped.now r.history.now }
 {
-    let shaped = &scene.run.shaped;
-    let run = RecordedRun {
-        callbacks: &*callbacks,
-        alloc,
-        shaped: &*shaped,
-        history: &*history,
-    };
     let wanted = ReplyProposer {
-        callbacks,
+        callbacks: run.callbacks,
         scene,
         call,
     };
-    callbacks.set_extra_calls_charged_per_state(1);
-    let found = find_allowed_values(&run, scene.model, core, call.number, &wanted, MOST)?;
-    callbacks.set_extra_calls_charged_per_state(0);
+    run.callbacks.set_extra_calls_charged_per_state(1);
+    let found = find_allowed_values(run, scene.model, core, call.number, &wanted, MOST)?;
+    run.callbacks.set_extra_calls_charged_per_state(0);
     Ok(found)
 }

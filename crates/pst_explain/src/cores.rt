@@ -1,17 +1,14 @@
 //! The answers that cannot all be right.
-ghost use Rattle.std.specs.Prelude.{◌≡◌, true, None};
-ghost use Rattle.pst_case.specs.Matches.{matches};
-ghost use Rattle.pst_case.specs.Recorded.{recorded};
-ghost use Rattle.pst_judge.specs.Verdict.{first_broken};
+ghost use Rattle.std.specs.Prelude.{◌≡◌};
+ghost use Rattle.pst_reasons.specs.Answered.{IsAnsweredRun};
 ghost use Rattle.pst_reasons.specs.Reasons.{IsUnexplained};
 
 use crate::allowing::{
     WrongAnswer, allowed_answers_for_explanation, why_answer_contradicts_rest_of_core,
 };
 use crate::bounded::StepLimitedCallbacks;
-use pst_case::History;
 use pst_eval::Callbacks;
-use pst_reasons::{AllowedValues, RecordedRun, minimal_core};
+use pst_reasons::{AllowedValues, Order, RecordedRun, minimal_core};
 use pst_scene::{
     Call, CasePart, Scene, call_numbered, operation_of_call, postcondition_wants_one_reply,
 };
@@ -88,28 +85,22 @@ fn has_postcondition_with_single_reply(
 }
 
 /// Adds to an answer of a core what the model allows in its place, and why it is wrong if the explanation has to say so.
-/// `AllocError` too if `callbacks` have no steps left.
-fn set_allowed_values_and_needed_reason<'a, C: Callbacks>(
-    callbacks: &StepLimitedCallbacks<'_, C>,
-    alloc: Global,
+/// `AllocError` too if the callbacks have no steps left.
+fn set_allowed_values_and_needed_reason<'a, C: Callbacks, O: Order>(
+    run: &RecordedRun<'_, StepLimitedCallbacks<'_, C>, O>,
     scene: &Scene<'a>,
-    history: &History,
     core: &[u32],
     answer: &mut CoreAnswer<'a>,
 ) -> Result<(), AllocError>
-    requires model { scene.now.model.now ≡ C.model callbacks.now.callbacks.now }
-    requires shaped { scene.now.run.now.shaped.model ≡ C.model callbacks.now.callbacks.now }
-    requires matches { matches (C.model callbacks.now.callbacks.now) scene.now.run.now.shaped.case history.now
-        ≡ true }
-    requires answered { first_broken 1 (recorded history.now) ≡ None }
+    requires model { scene.now.model.now ≡ C.model run.now.callbacks.now.callbacks.now }
+    requires answered { let r = run.now in
+        IsAnsweredRun (C.model r.callbacks.now.callbacks.now) (O.order r.order.now) r.shaped.now r.history.now }
 {
     let call = answer.call;
-    let allowed = allowed_answers_for_explanation(callbacks, alloc, scene, history, core, &call)?;
+    let allowed = allowed_answers_for_explanation(run, scene, core, &call)?;
     answer.allowed = allowed;
     if answer.needs_reason_why_wrong() {
-        let wrong = why_answer_contradicts_rest_of_core(
-            callbacks, alloc, scene, history, core, &call,
-        )?;
+        let wrong = why_answer_contradicts_rest_of_core(run, scene, core, &call)?;
         answer.wrong = wrong;
     }
     Ok(())
@@ -132,70 +123,47 @@ fn core_answer_without_allowed_values<'a>(
     })
 }
 
-/// Returns the answer of a command of a core. If `callbacks` have no steps left, what the model allows is unknown.
-fn core_answer_within_step_limit<'a, C: Callbacks>(
-    callbacks: &StepLimitedCallbacks<'_, C>,
-    alloc: Global,
+/// Returns the answer of a command of a core. If the callbacks have no steps left, what the model allows is unknown.
+fn core_answer_within_step_limit<'a, C: Callbacks, O: Order>(
+    run: &RecordedRun<'_, StepLimitedCallbacks<'_, C>, O>,
     scene: &Scene<'a>,
-    history: &History,
     core: &[u32],
     call: Call<'a>,
 ) -> Result<CoreAnswer<'a>, AllocError>
-    requires model { scene.now.model.now ≡ C.model callbacks.now.callbacks.now }
-    requires shaped { scene.now.run.now.shaped.model ≡ C.model callbacks.now.callbacks.now }
-    requires matches { matches (C.model callbacks.now.callbacks.now) scene.now.run.now.shaped.case history.now
-        ≡ true }
-    requires answered { first_broken 1 (recorded history.now) ≡ None }
+    requires model { scene.now.model.now ≡ C.model run.now.callbacks.now.callbacks.now }
+    requires answered { let r = run.now in
+        IsAnsweredRun (C.model r.callbacks.now.callbacks.now) (O.order r.order.now) r.shaped.now r.history.now }
 {
-    let mut answer = core_answer_without_allowed_values(alloc, scene, call)?;
-    if !callbacks.has_failed_for_lack_of_steps() {
-        let searched = set_allowed_values_and_needed_reason(
-            callbacks,
-            alloc,
-            scene,
-            history,
-            core,
-            &mut answer,
-        );
-        let _found = callbacks.none_if_out_of_steps(searched)?;
+    let mut answer = core_answer_without_allowed_values(run.alloc, scene, call)?;
+    if !run.callbacks.has_failed_for_lack_of_steps() {
+        let searched = set_allowed_values_and_needed_reason(run, scene, core, &mut answer);
+        let _found = run.callbacks.none_if_out_of_steps(searched)?;
     }
     Ok(answer)
 }
 
-/// Returns a core of the item, with what the model allows in place of each answer as far as the steps of `callbacks` last.
-/// `AllocError` too if they do not last for the core.
-pub fn find_core_for_explanation<'a, C: Callbacks>(
-    callbacks: &StepLimitedCallbacks<'_, C>,
-    alloc: Global,
+/// Returns a core of the run, with what the model allows in place of each answer as far as the steps of its callbacks
+/// last. `AllocError` too if they do not last for the core.
+pub fn find_core_for_explanation<'a, C: Callbacks, O: Order>(
+    run: &RecordedRun<'_, StepLimitedCallbacks<'_, C>, O>,
     scene: &Scene<'a>,
-    history: &History,
 ) -> Result<Core<'a>, AllocError>
-    requires model { scene.now.model.now ≡ C.model callbacks.now.callbacks.now }
-    requires shaped { scene.now.run.now.shaped.model ≡ C.model callbacks.now.callbacks.now }
-    requires matches { matches (C.model callbacks.now.callbacks.now) scene.now.run.now.shaped.case history.now
-        ≡ true }
-    requires answered { first_broken 1 (recorded history.now) ≡ None }
-    requires unexplained { IsUnexplained (C.model callbacks.now.callbacks.now) scene.now.run.now.shaped.case
-        history.now }
+    requires model { scene.now.model.now ≡ C.model run.now.callbacks.now.callbacks.now }
+    requires answered { let r = run.now in
+        IsAnsweredRun (C.model r.callbacks.now.callbacks.now) (O.order r.order.now) r.shaped.now r.history.now }
+    requires unexplained { let r = run.now in IsUnexplained (C.model r.callbacks.now.callbacks.now)
+        (O.order r.order.now) r.shaped.now.case r.history.now }
 {
-    let run = RecordedRun {
-        callbacks,
-        alloc,
-        shaped: &scene.run.shaped,
-        history,
-    };
-    let numbers = minimal_core(&run)?;
+    let numbers = minimal_core(run)?;
     let numbers = numbers.as_slice();
-    let mut answers = Vec::new(alloc);
+    let mut answers = Vec::new(run.alloc);
     for number in numbers {
         if let Some(call) = call_numbered(scene.all.as_slice(), *number) {
-            answers.push(core_answer_within_step_limit(
-                callbacks, alloc, scene, history, numbers, call,
-            )?)?;
+            answers.push(core_answer_within_step_limit(run, scene, numbers, call)?)?;
         }
     }
     Ok(Core {
         answers,
-        is_cut: callbacks.has_failed_for_lack_of_steps(),
+        is_cut: run.callbacks.has_failed_for_lack_of_steps(),
     })
 }

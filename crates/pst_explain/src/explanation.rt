@@ -1,10 +1,9 @@
 //! The explanation of an item.
-ghost use Rattle.std.specs.Prelude.{◌≡◌, true, None};
+ghost use Rattle.std.specs.Prelude.{◌≡◌, true};
 ghost use Rattle.pst_case.specs.Matches.{matches};
-ghost use Rattle.pst_case.specs.Recorded.{recorded};
-ghost use Rattle.pst_judge.specs.Judgement.{HistoryMatches, IsJudgement};
-ghost use Rattle.pst_judge.specs.Verdict.{IsVerdict, first_broken};
-ghost use Rattle.pst_judge.specs.declared.judgement.Verdict.TheVariants as verdict;
+ghost use Rattle.pst_judge.specs.ByOrder.{IsVerdictBy};
+ghost use Rattle.pst_judge.specs.Judgement.{HistoryMatches, IsJudgementBy};
+ghost use Rattle.pst_reasons.specs.Answered.{IsAnsweredRun};
 ghost use Rattle.pst_reasons.specs.Reasons.{IsUnexplained};
 
 use crate::bounded::StepLimitedCallbacks;
@@ -20,8 +19,11 @@ use crate::walks::{
 };
 use pst_case::{History, Run};
 use pst_eval::{Callback, Callbacks, FaultPlace};
-use pst_judge::{Judged, Verdict, Why, verdict_with_interleaving};
+use pst_judge::{
+    CallOrder, Judged, RecordedOrder, Verdict, Why, verdict_with_interleaving_in_order,
+};
 use pst_model::Typed;
+use pst_reasons::{Order, RecordedRun};
 use pst_scene::{CasePart, Scene, call_numbered, scene_of_run};
 use std::alloc::{AllocError, Global};
 
@@ -114,48 +116,41 @@ pub struct Explanation<'a> {
     pub reason: JudgementReason<'a>,
 }
 
-/// Returns a core, unless the steps of `callbacks` do not last for it.
-fn core_within_step_limit<'a, C: Callbacks>(
-    callbacks: &StepLimitedCallbacks<'_, C>,
-    alloc: Global,
+/// Returns a core, unless the steps of the callbacks do not last for it.
+fn core_within_step_limit<'a, C: Callbacks, O: Order>(
+    run: &RecordedRun<'_, StepLimitedCallbacks<'_, C>, O>,
     scene: &Scene<'a>,
-    history: &History,
 ) -> Result<Option<Core<'a>>, AllocError>
-    requires model { scene.now.model.now ≡ C.model callbacks.now.callbacks.now }
-    requires shaped { scene.now.run.now.shaped.model ≡ C.model callbacks.now.callbacks.now }
-    requires matches { matches (C.model callbacks.now.callbacks.now) scene.now.run.now.shaped.case history.now
-        ≡ true }
-    requires answered { first_broken 1 (recorded history.now) ≡ None }
-    requires unexplained { IsUnexplained (C.model callbacks.now.callbacks.now) scene.now.run.now.shaped.case
-        history.now }
+    requires model { scene.now.model.now ≡ C.model run.now.callbacks.now.callbacks.now }
+    requires answered { let r = run.now in
+        IsAnsweredRun (C.model r.callbacks.now.callbacks.now) (O.order r.order.now) r.shaped.now r.history.now }
+    requires unexplained { let r = run.now in IsUnexplained (C.model r.callbacks.now.callbacks.now)
+        (O.order r.order.now) r.shaped.now.case r.history.now }
 {
-    if callbacks.has_failed_for_lack_of_steps() {
+    if run.callbacks.has_failed_for_lack_of_steps() {
         return Ok(None);
     }
-    callbacks.none_if_out_of_steps(find_core_for_explanation(callbacks, alloc, scene, history))
+    run.callbacks
+        .none_if_out_of_steps(find_core_for_explanation(run, scene))
 }
 
-/// Returns the fault at `place` in the lexicographically first interleaving that has it. `AllocError` too if
-/// `callbacks` have no steps left.
-fn failure_in_first_faulting_interleaving<'a, C: Callbacks>(
-    callbacks: &StepLimitedCallbacks<'_, C>,
-    alloc: Global,
+/// Returns the fault at `place` in the lexicographically first interleaving in order that has it. `AllocError` too if
+/// the callbacks have no steps left.
+fn failure_in_first_faulting_interleaving<'a, C: Callbacks, O: Order>(
+    run: &RecordedRun<'_, StepLimitedCallbacks<'_, C>, O>,
     scene: &Scene<'a>,
-    history: &History,
     place: FaultPlace,
 ) -> Result<Failure<'a>, AllocError>
-    requires model { scene.now.model.now ≡ C.model callbacks.now.callbacks.now }
-    requires shaped { scene.now.run.now.shaped.model ≡ C.model callbacks.now.callbacks.now }
-    requires matches { matches (C.model callbacks.now.callbacks.now) scene.now.run.now.shaped.case history.now
-        ≡ true }
-    requires verdict { IsVerdict (C.model callbacks.now.callbacks.now) scene.now.run.now.shaped.case history.now
-        (verdict.Faulted place) }
+    requires answered { let r = run.now in
+        IsAnsweredRun (C.model r.callbacks.now.callbacks.now) (O.order r.order.now) r.shaped.now r.history.now }
 {
-    let (_, mut interleaving) = verdict_with_interleaving(
-        callbacks,
+    let alloc = run.alloc;
+    let (_, mut interleaving) = verdict_with_interleaving_in_order(
+        run.callbacks,
+        run.order,
         alloc,
-        &scene.run.shaped,
-        history,
+        run.shaped,
+        run.history,
     )?;
     if let Some(call) = call_numbered(scene.all.as_slice(), place.command) {
         if let CasePart::Branch(branch) = call.part {
@@ -165,49 +160,43 @@ fn failure_in_first_faulting_interleaving<'a, C: Callbacks>(
     failure_at_fault_place(alloc, scene, interleaving.as_slice(), place)
 }
 
-/// Returns the first fault of an item that no interleaving explains, and a core.
-fn explain_fault_verdict<'a, C: Callbacks>(
-    callbacks: &StepLimitedCallbacks<'_, C>,
-    alloc: Global,
+/// Returns the first fault of a run that no interleaving in order explains, and a core.
+fn explain_fault_verdict<'a, C: Callbacks, O: Order>(
+    run: &RecordedRun<'_, StepLimitedCallbacks<'_, C>, O>,
     scene: &Scene<'a>,
-    history: &History,
     place: FaultPlace,
 ) -> Result<JudgementReason<'a>, AllocError>
-    requires model { scene.now.model.now ≡ C.model callbacks.now.callbacks.now }
-    requires shaped { scene.now.run.now.shaped.model ≡ C.model callbacks.now.callbacks.now }
-    requires matches { matches (C.model callbacks.now.callbacks.now) scene.now.run.now.shaped.case history.now
-        ≡ true }
-    requires verdict { IsVerdict (C.model callbacks.now.callbacks.now) scene.now.run.now.shaped.case history.now
-        (verdict.Faulted place) }
+    requires model { scene.now.model.now ≡ C.model run.now.callbacks.now.callbacks.now }
+    requires answered { let r = run.now in
+        IsAnsweredRun (C.model r.callbacks.now.callbacks.now) (O.order r.order.now) r.shaped.now r.history.now }
+    requires unexplained { let r = run.now in IsUnexplained (C.model r.callbacks.now.callbacks.now)
+        (O.order r.order.now) r.shaped.now.case r.history.now }
 {
-    let found = failure_in_first_faulting_interleaving(callbacks, alloc, scene, history, place);
-    let failure = match callbacks.none_if_out_of_steps(found)? {
+    let found = failure_in_first_faulting_interleaving(run, scene, place);
+    let failure = match run.callbacks.none_if_out_of_steps(found)? {
         Some(failure) => failure,
-        None => failure_in_unknown_interleaving(alloc, scene, place)?,
+        None => failure_in_unknown_interleaving(run.alloc, scene, place)?,
     };
-    let core = core_within_step_limit(callbacks, alloc, scene, history)?;
+    let core = core_within_step_limit(run, scene)?;
     Ok(JudgementReason::Faulted { failure, core })
 }
 
-/// Returns a core of an item that no interleaving explains, and the interleaving that gets furthest.
-fn explain_unexplained_verdict<'a, C: Callbacks>(
-    callbacks: &StepLimitedCallbacks<'_, C>,
-    alloc: Global,
+/// Returns a core of a run that no interleaving in order explains, and the interleaving that gets furthest.
+fn explain_unexplained_verdict<'a, C: Callbacks, O: Order>(
+    run: &RecordedRun<'_, StepLimitedCallbacks<'_, C>, O>,
     scene: &Scene<'a>,
-    history: &History,
     far: usize,
 ) -> Result<JudgementReason<'a>, AllocError>
-    requires model { scene.now.model.now ≡ C.model callbacks.now.callbacks.now }
-    requires shaped { scene.now.run.now.shaped.model ≡ C.model callbacks.now.callbacks.now }
-    requires matches { matches (C.model callbacks.now.callbacks.now) scene.now.run.now.shaped.case history.now
-        ≡ true }
-    requires verdict { IsVerdict (C.model callbacks.now.callbacks.now) scene.now.run.now.shaped.case history.now
-        (verdict.Unexplained far) }
+    requires model { scene.now.model.now ≡ C.model run.now.callbacks.now.callbacks.now }
+    requires answered { let r = run.now in
+        IsAnsweredRun (C.model r.callbacks.now.callbacks.now) (O.order r.order.now) r.shaped.now r.history.now }
+    requires unexplained { let r = run.now in IsUnexplained (C.model r.callbacks.now.callbacks.now)
+        (O.order r.order.now) r.shaped.now.case r.history.now }
 {
-    let furthest = callbacks.none_if_out_of_steps(furthest_interleaving_with_blocked_calls(
-        callbacks, alloc, scene, history, far,
-    ))?;
-    let core = core_within_step_limit(callbacks, alloc, scene, history)?;
+    let furthest = run
+        .callbacks
+        .none_if_out_of_steps(furthest_interleaving_with_blocked_calls(run, scene, far))?;
+    let core = core_within_step_limit(run, scene)?;
     Ok(JudgementReason::Unexplained {
         far,
         core,
@@ -215,9 +204,10 @@ fn explain_unexplained_verdict<'a, C: Callbacks>(
     })
 }
 
-/// Returns the reason of the verdict on a history.
+/// Returns the reason of the verdict on a history, over the interleavings that count.
 fn explain_verdict<'a, C: Callbacks>(
     callbacks: &C,
+    order: CallOrder,
     alloc: Global,
     scene: &Scene<'a>,
     history: &History,
@@ -226,25 +216,33 @@ fn explain_verdict<'a, C: Callbacks>(
     requires model { scene.now.model.now ≡ C.model callbacks.now }
     requires shaped { scene.now.run.now.shaped.model ≡ C.model callbacks.now }
     requires matches { matches (C.model callbacks.now) scene.now.run.now.shaped.case history.now ≡ true }
-    requires verdict { IsVerdict (C.model callbacks.now) scene.now.run.now.shaped.case history.now
+    requires verdict { IsVerdictBy order (C.model callbacks.now) scene.now.run.now.shaped.case history.now
         verdict.now }
 {
+    let shaped = &scene.run.shaped;
+    let recorded = RecordedOrder::new(alloc, order, shaped, history)?;
     let bounded = StepLimitedCallbacks::new(callbacks, MOST_STEPS);
+    let run = RecordedRun {
+        callbacks: &bounded,
+        order: &recorded,
+        alloc,
+        shaped,
+        history,
+    };
     match verdict {
         Verdict::Explained(interleaving) => {
-            let walk = states_of_explaining_interleaving(
+            let run = RecordedRun {
                 callbacks,
+                order: &recorded,
                 alloc,
-                scene,
+                shaped,
                 history,
-                interleaving.as_slice(),
-            )?;
+            };
+            let walk = states_of_explaining_interleaving(&run, scene, interleaving.as_slice())?;
             Ok(JudgementReason::Explained(walk))
         }
-        Verdict::Faulted(place) => explain_fault_verdict(&bounded, alloc, scene, history, *place),
-        Verdict::Unexplained(far) => explain_unexplained_verdict(
-            &bounded, alloc, scene, history, *far,
-        ),
+        Verdict::Faulted(place) => explain_fault_verdict(&run, scene, *place),
+        Verdict::Unexplained(far) => explain_unexplained_verdict(&run, scene, *far),
         Verdict::Broken(number) => Ok(JudgementReason::Broken(call_with_broken_reply(
             scene, *number,
         ))),
@@ -281,10 +279,12 @@ fn explain_invalid_case<'a>(
     }
 }
 
-/// Explains an item of a model: `judged` is its judgement, `number` its number, and `place` where it begins in the
-/// input. The searches take at most 2,000,000 steps of callbacks together. What they do not find in these is left out.
+/// Explains an item of a model: `judged` is its judgement by `order`, `number` its number, and `place` where it begins in
+/// the input. Only the interleavings that count by `order` may explain it. The searches take at most 2,000,000 steps of
+/// callbacks together. What they do not find in these is left out.
 pub fn explain_item<'a, C: Callbacks>(
     callbacks: &C,
+    order: CallOrder,
     alloc: Global,
     typed: &'a Typed,
     run: &'a Run,
@@ -295,12 +295,12 @@ pub fn explain_item<'a, C: Callbacks>(
     requires model { typed.now ≡ C.model callbacks.now }
     requires shaped { run.now.shaped.model ≡ C.model callbacks.now }
     requires matches { HistoryMatches (C.model callbacks.now) run.now }
-    requires judged { IsJudgement (C.model callbacks.now) run.now judged.now }
+    requires judged { IsJudgementBy order (C.model callbacks.now) run.now judged.now }
 {
     let scene = scene_of_run(alloc, typed, run)?;
     let reason = match judged {
         Judged::Verdict(verdict) => match &run.history {
-            Some(history) => explain_verdict(callbacks, alloc, &scene, history, verdict)?,
+            Some(history) => explain_verdict(callbacks, order, alloc, &scene, history, verdict)?,
             None => JudgementReason::Nothing,
         },
         Judged::Valid => JudgementReason::Nothing,

@@ -1,6 +1,6 @@
 //! The graph of an item, and the interleaving that it shows.
 ghost use Rattle.std.specs.Prelude.{◌≡◌, true};
-ghost use Rattle.pst_judge.specs.Judgement.{HistoryMatches, IsJudgement};
+ghost use Rattle.pst_judge.specs.Judgement.{HistoryMatches, IsJudgementBy};
 ghost use Rattle.pst_case.specs.Matches.{matches};
 
 use crate::bounded::StepLimitedCallbacks;
@@ -9,7 +9,9 @@ use crate::explanation::MOST_STEPS;
 use crate::search::{build_interleaving_graph_with_dead_ends, build_search_graph_up_to_limit};
 use pst_case::{History, Run};
 use pst_eval::Callbacks;
-use pst_judge::{Judged, Verdict, Why, verdict_with_interleaving};
+use pst_judge::{
+    CallOrder, Judged, RecordedOrder, Verdict, Why, verdict_with_interleaving_in_order,
+};
 use pst_model::Typed;
 use pst_scene::{
     Call, CasePart, Scene, call_numbered, calls_before_call_in_interleaving,
@@ -38,16 +40,19 @@ fn is_explained(judged: &Judged) -> bool {
     matches!(judged, Judged::Verdict(Verdict::Explained(_)))
 }
 
-/// Draws the search of an item as a graph for Graphviz. `judged` is the item's judgement, and `number` its number.
+/// Draws the search of an item as a graph for Graphviz. `judged` is the item's judgement by `order`, and `number` its
+/// number.
 ///
 /// A node is a position of the search: how far each part of the item has come, and the state there. Positions after
 /// equally many commands are side by side. An edge is a command with its answer. A command that cannot come next leads,
 /// in red, to a dead end with the reason. The edges of the interleaving of the verdict are bold. For an explained run,
 /// draws only these and the dead ends beside them, unless `all` is true. The search expands the first 300 positions,
 /// and all along the bold edges; positions that it leaves are dashed, and the title says so. If the search for the
-/// interleaving takes more than 2,000,000 steps of callbacks, no edge is bold, and the title says so.
+/// interleaving takes more than 2,000,000 steps of callbacks, no edge is bold, and the title says so. The graph is that of
+/// all interleavings also if only those in the order in time count; the bold edges are in order.
 pub fn graphviz_text_of_item_search<C: Callbacks>(
     callbacks: &C,
+    order: CallOrder,
     alloc: Global,
     typed: &Typed,
     run: &Run,
@@ -57,12 +62,12 @@ pub fn graphviz_text_of_item_search<C: Callbacks>(
 ) -> Result<Vec<u8>, AllocError>
     requires shaped { run.now.shaped.model ≡ C.model callbacks.now }
     requires matches { HistoryMatches (C.model callbacks.now) run.now }
-    requires judged { IsJudgement (C.model callbacks.now) run.now judged.now }
+    requires judged { IsJudgementBy order (C.model callbacks.now) run.now judged.now }
 {
     let scene = scene_of_run(alloc, typed, run)?;
     let bounded = StepLimitedCallbacks::new(callbacks, MOST_STEPS);
     let shown = bounded.none_if_out_of_steps(calls_of_displayed_interleaving(
-        &bounded, alloc, &scene, judged,
+        &bounded, order, alloc, &scene, judged,
     ))?;
     let is_path_known = shown.is_some();
     let shown = shown.unwrap_or(Vec::new(alloc));
@@ -112,6 +117,7 @@ fn calls_before_fault<'a>(
 /// the first that faults or of the one that gets furthest.
 fn calls_in_verdict_interleaving_until_failure<'a, C: Callbacks>(
     callbacks: &C,
+    order: CallOrder,
     alloc: Global,
     scene: &Scene<'a>,
     history: &History,
@@ -121,6 +127,7 @@ fn calls_in_verdict_interleaving_until_failure<'a, C: Callbacks>(
     requires matches { matches (C.model callbacks.now) scene.now.run.now.shaped.case history.now ≡ true }
 {
     let shaped = &scene.run.shaped;
+    let recorded = RecordedOrder::new(alloc, order, shaped, history)?;
     match verdict {
         Verdict::Explained(interleaving) => calls_in_interleaving_order(
             alloc,
@@ -128,11 +135,15 @@ fn calls_in_verdict_interleaving_until_failure<'a, C: Callbacks>(
             interleaving.as_slice(),
         ),
         Verdict::Faulted(place) => {
-            let (_, interleaving) = verdict_with_interleaving(callbacks, alloc, shaped, history)?;
+            let (_, interleaving) = verdict_with_interleaving_in_order(
+                callbacks, &recorded, alloc, shaped, history,
+            )?;
             calls_before_fault(alloc, scene, interleaving.as_slice(), place.command)
         }
         Verdict::Unexplained(far) => {
-            let (_, interleaving) = verdict_with_interleaving(callbacks, alloc, shaped, history)?;
+            let (_, interleaving) = verdict_with_interleaving_in_order(
+                callbacks, &recorded, alloc, shaped, history,
+            )?;
             let order = calls_in_interleaving_order(alloc, &scene.calls, interleaving.as_slice())?;
             first_calls(alloc, order.as_slice(), *far)
         }
@@ -160,6 +171,7 @@ fn calls_before_case_failure<'a>(
 /// The commands of the interleaving that a graph shows; none if the item is valid or has a reply that is no value.
 fn calls_of_displayed_interleaving<'a, C: Callbacks>(
     callbacks: &C,
+    order: CallOrder,
     alloc: Global,
     scene: &Scene<'a>,
     judged: &Judged,
@@ -170,7 +182,7 @@ fn calls_of_displayed_interleaving<'a, C: Callbacks>(
     match judged {
         Judged::Verdict(verdict) => match &scene.run.history {
             Some(history) => calls_in_verdict_interleaving_until_failure(
-                callbacks, alloc, scene, history, verdict,
+                callbacks, order, alloc, scene, history, verdict,
             ),
             None => Ok(Vec::new(alloc)),
         },

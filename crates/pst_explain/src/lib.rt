@@ -1,10 +1,11 @@
 //! Explains verdicts: explanations as data, their text, and the graph of the search.
 //!
-//! `explain_item` explains one item, whose judgement is known. `append_explanation_text` writes the explanation in the
-//! form of `pst explain`. `tree_places_in_input` finds where the trees of an input begin, `explain_fault_in_generation`
-//! explains why no case can be generated, and `broken_reply_sentence_of_run` says which reply makes a run broken. Cores
-//! and the states of interleavings are from `pst_reasons`, the interleavings from `pst_judge`. The rest of an
-//! explanation, and its text, is tested and not proved.
+//! `explain_item` explains one item, whose judgement is known: over all interleavings, or over those in the order of its
+//! times. `append_explanation_text` writes the explanation in the form of `pst explain`. `tree_places_in_input` finds
+//! where the trees of an input begin, `explain_fault_in_generation` explains why no case can be generated, and
+//! `broken_reply_sentence_of_run` says which reply makes a run broken. Cores and the states of interleavings are from
+//! `pst_reasons`, the interleavings from `pst_judge`. The rest of an explanation, and its text, is tested and not
+//! proved.
 //!
 //! `AllocError` means that an allocation failed.
 #![tactic(auto)]

@@ -1,13 +1,9 @@
 //! Interleavings with their states.
-ghost use Rattle.std.specs.Prelude.{◌≡◌, true, None};
-ghost use Rattle.pst_case.specs.Matches.{matches};
-ghost use Rattle.pst_case.specs.Recorded.{recorded};
-ghost use Rattle.pst_judge.specs.Verdict.{first_broken};
+ghost use Rattle.pst_reasons.specs.Answered.{IsAnsweredRun};
 
-use pst_case::History;
 use pst_eval::Callbacks;
-use pst_judge::{Condition, Postconditions, verdict_with_interleaving};
-use pst_reasons::{RecordedRun, SomePostconditions, states};
+use pst_judge::{Condition, Postconditions, verdict_with_interleaving_in_order};
+use pst_reasons::{Order, RecordedRun, SomePostconditions, states};
 use pst_scene::{
     Call, CasePart, DeadEnd, Outcome, PreAnswer, Scene, calls_in_interleaving_order,
     calls_that_may_come_next, evaluate_precondition, outcome_of_call_on_state,
@@ -169,26 +165,18 @@ pub fn blocked_calls_after<'a>(
 }
 
 /// Returns the walk of `interleaving`, up to the first command of which `condition` is not true.
-fn interleaving_states_while_condition_true<'a, C: Callbacks, A: Condition>(
-    callbacks: &C,
+fn interleaving_states_while_condition_true<'a, C: Callbacks, O: Order, A: Condition>(
+    run: &RecordedRun<'_, C, O>,
     condition: &A,
-    alloc: Global,
     scene: &Scene<'a>,
-    history: &History,
     interleaving: &[usize],
 ) -> Result<InterleavingStates<'a>, AllocError>
-    requires shaped { scene.now.run.now.shaped.model ≡ C.model callbacks.now }
-    requires matches { matches (C.model callbacks.now) scene.now.run.now.shaped.case history.now ≡ true }
-    requires answered { first_broken 1 (recorded history.now) ≡ None }
+    requires answered { let r = run.now in
+        IsAnsweredRun (C.model r.callbacks.now) (O.order r.order.now) r.shaped.now r.history.now }
 {
+    let alloc = run.alloc;
     let order = calls_in_interleaving_order(alloc, &scene.calls, interleaving)?;
-    let run = RecordedRun {
-        callbacks,
-        alloc,
-        shaped: &scene.run.shaped,
-        history,
-    };
-    let states = states(&run, condition, interleaving)?;
+    let states = states(run, condition, interleaving)?;
     interleaving_states_along_calls(
         alloc,
         scene,
@@ -200,22 +188,60 @@ fn interleaving_states_while_condition_true<'a, C: Callbacks, A: Condition>(
 
 /// Returns the walk of `interleaving`, which explains the item: since each postcondition is true along it, none
 /// is evaluated again.
-pub fn states_of_explaining_interleaving<'a, C: Callbacks>(
-    callbacks: &C,
-    alloc: Global,
+pub fn states_of_explaining_interleaving<'a, C: Callbacks, O: Order>(
+    run: &RecordedRun<'_, C, O>,
     scene: &Scene<'a>,
-    history: &History,
     interleaving: &[usize],
 ) -> Result<InterleavingStates<'a>, AllocError>
-    requires shaped { scene.now.run.now.shaped.model ≡ C.model callbacks.now }
-    requires matches { matches (C.model callbacks.now) scene.now.run.now.shaped.case history.now ≡ true }
-    requires answered { first_broken 1 (recorded history.now) ≡ None }
+    requires answered { let r = run.now in
+        IsAnsweredRun (C.model r.callbacks.now) (O.order r.order.now) r.shaped.now r.history.now }
 {
     let none = SomePostconditions {
         first: &[],
         rest: &[],
     };
-    interleaving_states_while_condition_true(callbacks, &none, alloc, scene, history, interleaving)
+    interleaving_states_while_condition_true(run, &none, scene, interleaving)
+}
+
+/// Returns how many commands of each branch are in an interleaving.
+fn count_commands_done(
+    alloc: Global,
+    branches: usize,
+    interleaving: &[usize],
+) -> Result<Vec<usize>, AllocError> {
+    let mut done = vec![in alloc; 0usize; branches]?;
+    for branch in interleaving {
+        if let Some(count) = done.get_mut(*branch) {
+            *count = count.saturating_add(1);
+        }
+    }
+    Ok(done)
+}
+
+/// Returns whether the order lets a command come next, when `done[b]` commands of each branch `b` are done.
+fn may_call_come_next<O: Order>(order: &O, done: &[usize], call: &Call<'_>) -> bool {
+    match call.part {
+        CasePart::Branch(branch) => order.is_open(done, branch),
+        CasePart::Prefix | CasePart::Suffix => true,
+    }
+}
+
+/// Returns the commands that may come after the first `count` commands of an interleaving, in order.
+fn calls_that_may_come_next_in_order<'a, O: Order>(
+    alloc: Global,
+    order: &O,
+    scene: &Scene<'a>,
+    interleaving: &[usize],
+    count: usize,
+) -> Result<Vec<Call<'a>>, AllocError> {
+    let done = count_commands_done(alloc, scene.calls.branches.len(), interleaving)?;
+    let mut next = Vec::new(alloc);
+    for call in &calls_that_may_come_next(alloc, &scene.calls, interleaving, count)? {
+        if may_call_come_next(order, done.as_slice(), call) {
+            next.push(*call)?;
+        }
+    }
+    Ok(next)
 }
 
 /// Returns each of the commands `next`, with the reason why its postcondition is not true on `state`.
@@ -233,29 +259,31 @@ fn calls_with_reasons_for_false_postconditions<'a>(
     Ok(stopped)
 }
 
-/// Returns the interleaving that gets furthest: `far` commands are right in it before a wrong one.
-pub fn furthest_interleaving_with_blocked_calls<'a, C: Callbacks>(
-    callbacks: &C,
-    alloc: Global,
+/// Returns the interleaving in order that gets furthest: `far` commands are right in it before a wrong one.
+pub fn furthest_interleaving_with_blocked_calls<'a, C: Callbacks, O: Order>(
+    run: &RecordedRun<'_, C, O>,
     scene: &Scene<'a>,
-    history: &History,
     far: usize,
 ) -> Result<InterleavingStates<'a>, AllocError>
-    requires shaped { scene.now.run.now.shaped.model ≡ C.model callbacks.now }
-    requires matches { matches (C.model callbacks.now) scene.now.run.now.shaped.case history.now ≡ true }
-    requires answered { first_broken 1 (recorded history.now) ≡ None }
+    requires answered { let r = run.now in
+        IsAnsweredRun (C.model r.callbacks.now) (O.order r.order.now) r.shaped.now r.history.now }
 {
-    let shaped = &scene.run.shaped;
-    let (_, interleaving) = verdict_with_interleaving(callbacks, alloc, shaped, history)?;
-    let mut walk = interleaving_states_while_condition_true(
-        callbacks,
-        &Postconditions,
+    let alloc = run.alloc;
+    let (_, interleaving) = verdict_with_interleaving_in_order(
+        run.callbacks,
+        run.order,
         alloc,
-        scene,
-        history,
-        interleaving.as_slice(),
+        run.shaped,
+        run.history,
     )?;
-    let next = calls_that_may_come_next(alloc, &scene.calls, interleaving.as_slice(), far)?;
+    let interleaving = interleaving.as_slice();
+    let mut walk = interleaving_states_while_condition_true(
+        run,
+        &Postconditions,
+        scene,
+        interleaving,
+    )?;
+    let next = calls_that_may_come_next_in_order(alloc, run.order, scene, interleaving, far)?;
     let stopped = match walk.last_state() {
         Some(state) => calls_with_reasons_for_false_postconditions(
             alloc,

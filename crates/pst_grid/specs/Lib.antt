@@ -1,7 +1,6 @@
 -- what the public contracts cite
 pub mod Merges
 pub mod Orders
-pub mod RealTime
 pub mod StepOutcomes
 pub mod Answers
 pub mod Bounds

@@ -1,6 +1,5 @@
-//! Laws of runs, of bounds and of the order in time.
+//! Laws of runs and of bounds.
 ghost use Rattle.std.specs.Prelude.{ℕ};
-ghost use Rattle.pst_grid.specs.RealTime.{RealTimeNeverBlocks};
 ghost use Rattle.pst_grid.specs.Laws.{IsTrueByEvents, MakesFewSteps, RunsAlone};
 ghost use Rattle.pst_grid.specs.declared.steps.Ending.{Ending};
 ghost use Rattle.pst_grid.specs.declared.steps.StepOutcome.{StepOutcome};
@@ -19,10 +18,4 @@ pub fn run_is_true_if_all_events_are<S, F>()
 /// once. The number of places is the product of each length plus one.
 pub fn few_steps_if_state_never_changes<S, F>()
     ensures { (turn : S → ℕ → ℕ → StepOutcome S F) → MakesFewSteps turn }
-{}
-
-/// If no command completed before it was invoked, then [`crate::RealTime`] never blocks: wherever commands are left, some
-/// branch that has one is open.
-pub fn real_time_never_blocks()
-    ensures { RealTimeNeverBlocks }
 {}

@@ -11,13 +11,12 @@
 //! searched from, each state in the form of [`Steps::keep`], so they make few steps even if there are many
 //! interleavings, and they run the rest once for each state in which all branches end.
 //!
-//! [`some_in_order`] and [`every_in_order`] search only the interleavings that are in a given [`Order`], such as
-//! [`RealTime`]. With [`AnyOrder`] they return what [`some`] and [`every`] do. [`find_first_true_interleaving_plainly`]
-//! returns the same answer as [`some_in_order`] and remembers nothing: it is the slow program for tests to compare with.
+//! [`some_in_order`] and [`every_in_order`] search only the interleavings that are in a given [`Order`]. With [`AnyOrder`]
+//! they return what [`some`] and [`every`] do. [`find_first_true_interleaving_plainly`] returns the same answer as
+//! [`some_in_order`] and remembers nothing: it is the slow program for tests to compare with.
 //!
-//! [`run_without_rest_is_interleaving_alone`], [`run_is_true_if_all_events_are`], [`few_steps_if_state_never_changes`] and
-//! [`real_time_never_blocks`] are laws: they do nothing, and their contracts are theorems about runs, the number of steps
-//! and the order in time.
+//! [`run_without_rest_is_interleaving_alone`], [`run_is_true_if_all_events_are`] and [`few_steps_if_state_never_changes`]
+//! are laws: they do nothing, and their contracts are theorems about runs and the number of steps.
 //!
 //! A caller defines the steps and the rest by an `impl` of [`Steps`], and an order by one of [`Order`]. `AllocError` means
 //! that an allocation failed.
@@ -28,17 +27,15 @@ mod laws;
 mod order;
 mod plain_search;
 mod position;
-mod real_time;
 mod remembering_search;
 mod search;
 mod steps;
 
 pub use laws::{
-    few_steps_if_state_never_changes, real_time_never_blocks, run_is_true_if_all_events_are,
+    few_steps_if_state_never_changes, run_is_true_if_all_events_are,
     run_without_rest_is_interleaving_alone,
 };
 pub use order::{AnyOrder, Order};
 pub use plain_search::find_first_true_interleaving_plainly;
-pub use real_time::{CommandTime, RealTime};
 pub use remembering_search::{every, every_in_order, some, some_in_order};
 pub use steps::{Ending, EveryAnswer, SomeAnswer, StepOutcome, Steps, StopReason};

@@ -4,8 +4,8 @@ ghost use Rattle.std.specs.Prelude.{◌≡◌, false};
 use crate::memory::trials::settings_for_trials_of_one_command;
 use pst_campaign::Unwatched;
 use pst_cli::{
-    ChosenItems, ExplainOptions, ExplanationForm, Status, campaign_text, check_text, explain_text,
-    judge_text, list_text, run_text,
+    CallOrder, ChosenItems, ExplainOptions, ExplanationForm, Status, campaign_text, check_text,
+    explain_text, judge_text, list_text, run_text,
 };
 use pst_samples::Stuck;
 use pst_system::BoxedSystem;
@@ -106,6 +106,7 @@ pub fn run_command_with_limited_writer<R: Threads + Wait + Sync>(
         ProgramCommand::Judge => judge_text(rt, alloc, input, &mut short),
         ProgramCommand::Explain => {
             let asked = ExplainOptions {
+                order: CallOrder::Time,
                 files: &[],
                 chosen: ChosenItems::All,
                 most: usize::MAX,

@@ -8,6 +8,7 @@ pub mod ValueBack
 pub mod SpelledBack
 pub mod CommandBack
 pub mod ReplyBack
+pub mod TimesBack
 pub mod ItemBack
 pub mod ValueLevels
 pub mod Wanted

@@ -2,7 +2,7 @@
 use Rattle.std.specs.Prelude.{ℕ, ◌+◌, nat_eq, Bool, true, false, ◌&&◌, if◌then◌else◌, List, [], ◌∷◌, ◌++◌, Option, Some, None, option_map, option_and_then, codes}
 use Rattle.std.specs.Str.{bytes_eq}
 use Rattle.json.specs.Find.{get}
-use Rattle.json.specs.Json.{Json, null, string, array, object, Items, no_items, item, Members, no_members, member}
+use Rattle.json.specs.Json.{Json, null, number, string, array, object, Items, no_items, item, Members, no_members, member}
 use Rattle.pst_json_runs.specs.Spelled.{if_spelled}
 use Rattle.pst_json_runs.specs.Reading.{value_in, size, count as length_of}
 use Rattle.pst_model.specs.Parts.{operation_number, operation_of}
@@ -159,6 +159,35 @@ abbrev pub list_forms : Source → (prefix : Option Json) → (branches : Items)
 list_forms m prefix bs suffix no_items = []
 list_forms m prefix bs suffix (item l ls) = list_form m prefix l ∷ rest_forms m bs suffix ls
 
+-- ---- times
+
+-- the digits of a number as they stand in the JSON, and `-` for `null`
+abbrev pub instant_form : Json → Form
+instant_form (number digits) = if_spelled (Word digits) nothing
+instant_form null = Word (codes "-")
+instant_form _ = nothing
+
+abbrev pub instant_forms : Items → List Form
+instant_forms no_items = []
+instant_forms (item j js) = instant_form j ∷ instant_forms js
+
+-- `[INVOKED, COMPLETED]`; JSON that is no array has the tree `()`
+abbrev pub time_form : Json → Form
+time_form j = Node (instant_forms (items_in j))
+
+abbrev pub time_forms : Items → List Form
+time_forms no_items = []
+time_forms (item j js) = time_form j ∷ time_forms js
+
+-- the times of the calls of a branch
+abbrev pub times_form : Json → Form
+times_form j = Node (time_forms (items_in j))
+
+-- the times of each branch
+abbrev pub times_in : Items → List Form
+times_in no_items = []
+times_in (item j js) = times_form j ∷ times_in js
+
 -- ---- the parts of an item
 
 abbrev pub are_arrays : Items → Bool
@@ -194,23 +223,32 @@ suffix_of j = get (codes "suffix") j
 abbrev pub replies_of : Json → Option Json
 replies_of j = get (codes "replies") j
 
+abbrev pub times_of : Json → Option Json
+times_of j = get (codes "times") j
+
 abbrev pub count : Option Json → ℕ
 count None = 0
 count (Some j) = 1
 
 -- how many of the parts of an item are there
 abbrev pub named : Json → ℕ
-named j = count (prefix_of j) + count (branches_of j) + count (suffix_of j) + count (replies_of j)
+named j =
+    count (prefix_of j) + count (branches_of j) + count (suffix_of j) + count (replies_of j) + count (times_of j)
 
 abbrev pub size_of : Json → ℕ
 size_of (object ms) = size ms
 size_of _ = 0
 
--- an object with `branches`, and with `prefix`, `suffix` and `replies` if they are there, each once and nothing else
+-- the lists of replies and of times
+abbrev pub are_records : Json → Bool
+are_records j = are_lists (replies_of j) && are_lists (times_of j)
+
+-- an object with `branches`, and with `prefix`, `suffix`, `replies` and `times` if they are there, each once and
+-- nothing else
 abbrev pub is_item : Json → Bool
 is_item j =
     nat_eq (size_of j) (named j)
-    && (is_part (prefix_of j) && (are_branches (branches_of j) && (is_part (suffix_of j) && are_lists (replies_of j))))
+    && (is_part (prefix_of j) && (are_branches (branches_of j) && (is_part (suffix_of j) && are_records j)))
 
 -- ---- the item
 
@@ -245,6 +283,14 @@ replies_forms m j None = []
 replies_forms m j (Some lists) =
     headed (codes "replies") (lists_in m j (items_in lists)) ∷ []
 
+abbrev pub times_forms : Option Json → List Form
+times_forms None = []
+times_forms (Some lists) = headed (codes "times") (times_in (items_in lists)) ∷ []
+
+-- the replies, and the times after them
+abbrev pub records_forms : Source → Json → List Form
+records_forms m j = replies_forms m j (replies_of j) ++ times_forms (times_of j)
+
 abbrev pub head_of : Option Json → List ℕ
 head_of None = codes "case"
 head_of (Some lists) = codes "run"
@@ -253,7 +299,7 @@ head_of (Some lists) = codes "run"
 abbrev pub whole_form : Source → Json → Form
 whole_form m j =
     headed (head_of (replies_of j)) (section m (codes "prefix") (prefix_of j)
-    ∷ branches_forms m (part (branches_of j)) ++ (suffix_forms m (suffix_of j) ++ replies_forms m j (replies_of j)))
+    ∷ branches_forms m (part (branches_of j)) ++ (suffix_forms m (suffix_of j) ++ records_forms m j))
 
 -- the tree of an item; `()` if it has another form, or no spelling
 abbrev pub item_form : Source → Json → Form

@@ -1,11 +1,12 @@
 -- The JSON that is written for a run.
-use Rattle.std.specs.Prelude.{ℕ, List, [], ◌∷◌, ◌++◌, map, Option, Some, None, codes}
-use Rattle.json.specs.Json.{Json, null, string, array, object, item, Members, no_members, member}
+use Rattle.std.specs.Prelude.{ℕ, List, [], ◌∷◌, ◌++◌, map, Option, Some, None, codes, decimal}
+use Rattle.json.specs.Json.{Json, null, number, string, array, object, no_items, item, Members, no_members, member}
 use Rattle.json.specs.Print.{print}
 use Rattle.json.specs.Tree.{json_tokens}
 use Rattle.json.specs.Value.{items_of}
 use Rattle.pst_case.specs.declared.case.Case.{Case}
 use Rattle.pst_case.specs.declared.case.Command.{Command}
+use Rattle.pst_case.specs.declared.history.CallTime.{CallTime}
 use Rattle.pst_case.specs.declared.history.History.{History}
 use Rattle.pst_case.specs.declared.history.Reply.{Reply}
 use Rattle.pst_case.specs.declared.history.Reply.TheVariants as reply
@@ -45,9 +46,30 @@ suffix_lists (r ∷ rs) = list_json (r ∷ rs) ∷ []
 abbrev pub lists_json : History → Json
 lists_json h = array (item (list_json h.prefix) (items_of (map list_json h.branches ++ suffix_lists h.suffix)))
 
+-- `null` if the call is not known to have completed
+abbrev pub completion_json : Option ℕ → Json
+completion_json None = null
+completion_json (Some completed) = number (decimal completed)
+
+-- `[INVOKED, COMPLETED]`
+abbrev pub time_json : CallTime → Json
+time_json t = array (item (number (decimal t.invoked)) (item (completion_json t.completed) no_items))
+
+-- the times of a branch
+abbrev pub times_json : List CallTime → Json
+times_json ts = array (items_of (map time_json ts))
+
+-- the times of each branch
+abbrev pub time_lists_json : List (List CallTime) → Json
+time_lists_json times = array (items_of (map times_json times))
+
+abbrev pub times_members : Option (List (List CallTime)) → Members
+times_members None = no_members
+times_members (Some times) = member (codes "times") (time_lists_json times) no_members
+
 abbrev pub replies_members : Option History → Members
 replies_members None = no_members
-replies_members (Some h) = member (codes "replies") (lists_json h) no_members
+replies_members (Some h) = member (codes "replies") (lists_json h) (times_members h.times)
 
 -- the suffix, if it has commands
 abbrev pub suffix_members : Source → List Command → Members → Members

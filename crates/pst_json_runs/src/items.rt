@@ -8,6 +8,7 @@ ghost use Rattle.pst_json_runs.specs.Trees as spec;
 use crate::commands::{command_forms_from_json, empty_node_form, json_array_items_or_empty};
 use crate::replies::{reply_list_forms_of_parts_from_json, rest_after_first_json};
 use crate::spelled::form_or_other_if_unspellable;
+use crate::times::times_form_from_json_if_present;
 use json::Value as Json;
 use pst_model::Source;
 use pst_sexpr::{Form, headed, list_of_one_form};
@@ -87,6 +88,7 @@ fn count_known_json_item_members(json: &Json<'_>) -> usize
         + one_if_present_else_zero(json.get("branches"))
         + one_if_present_else_zero(json.get("suffix"))
         + one_if_present_else_zero(json.get("replies"))
+        + one_if_present_else_zero(json.get("times"))
 }
 
 #[tactic(auto, using(crate::proofs::Views::views))]
@@ -99,6 +101,14 @@ fn count_json_members_or_zero(json: &Json<'_>) -> usize
     }
 }
 
+/// Whether the replies and the times are arrays of arrays, if they are there.
+fn has_outer_shape_of_json_records(json: &Json<'_>) -> bool
+    ensures { result ≡ spec.are_records (value_view json.now) }
+{
+    is_absent_or_json_array_of_arrays(json.get("replies"))
+        && is_absent_or_json_array_of_arrays(json.get("times"))
+}
+
 /// Whether it is an object with the parts of an item, each once, and nothing else.
 fn has_outer_shape_of_json_item(json: &Json<'_>) -> bool
     ensures { result ≡ spec.is_item (value_view json.now) }
@@ -107,7 +117,7 @@ fn has_outer_shape_of_json_item(json: &Json<'_>) -> bool
         && is_absent_or_json_array(json.get("prefix"))
         && is_present_json_array_of_arrays(json.get("branches"))
         && is_absent_or_json_array(json.get("suffix"))
-        && is_absent_or_json_array_of_arrays(json.get("replies"))
+        && has_outer_shape_of_json_records(json)
 }
 
 /// A word, and the commands of a part, if it is there.
@@ -264,6 +274,19 @@ fn replies_form_from_json_if_present(
     }
 }
 
+/// The replies of an item, and the times after them, if they are there.
+fn record_forms_from_json_if_present(
+    alloc: Global,
+    model: &Source,
+    json: &Json<'_>,
+) -> Result<Items<Form>, AllocError>
+    ensures { IfOk result (λ forms. forms ≡ spec.records_forms model.now (value_view json.now)) }
+{
+    let mut forms = replies_form_from_json_if_present(alloc, model, json, json.get("replies"))?;
+    forms.append(times_form_from_json_if_present(alloc, json.get("times"))?)?;
+    Ok(forms)
+}
+
 /// The branches of an item.
 fn item_branch_forms_from_json(
     alloc: Global,
@@ -294,7 +317,7 @@ fn case_or_run_form_from_json(
     let mut forms = list_of_one_form(alloc, prefix)?;
     forms.append(item_branch_forms_from_json(alloc, model, json.get("branches"))?)?;
     let mut more = suffix_form_from_json_if_present(alloc, model, json.get("suffix"))?;
-    more.append(replies_form_from_json_if_present(alloc, model, json, json.get("replies"))?)?;
+    more.append(record_forms_from_json_if_present(alloc, model, json)?)?;
     forms.append(more)?;
     match json.get("replies") {
         Some(_) => headed(alloc, "run", forms),

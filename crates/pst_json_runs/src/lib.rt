@@ -12,6 +12,7 @@ mod lines;
 mod reading;
 mod replies;
 mod spelled;
+mod times;
 mod write;
 mod writing;
 

@@ -9,10 +9,14 @@ ghost use Rattle.pst_json_runs.specs.Written as spec;
 ghost use Rattle.pst_runs.specs.Lawful.{IsLawful};
 ghost use Rattle.pst_runs.specs.Written as trees;
 
+mod times;
+
+use crate::write::times::write_json_times_and_item_end;
 use crate::writing::{write_json_value, write_json_values_and_end};
 use json::Writer;
 use pst_case::{Case, Command, History, Reply, Run};
 use pst_model::{Source, Typed, operation_of};
+use pst_runs::prove_times_are_small;
 use pst_value::Items;
 use std::alloc::{AllocError, Global};
 
@@ -186,7 +190,7 @@ fn write_json_reply_lists(writer: &mut Writer<Global>, history: &History) -> Res
     )
 }
 
-/// Writes the replies, if there are any, and the end of the item.
+/// Writes the replies and the times, if there are any, and the end of the item.
 fn write_json_replies_and_item_end(
     writer: &mut Writer<Global>,
     history: &Option<History>,
@@ -195,11 +199,14 @@ fn write_json_replies_and_item_end(
         ++ members_tokens (spec.replies_members history.now)) }
     ensures before { writer.new.before ≡ writer.old.before }
 {
-    if let Some(history) = history {
-        writer.key("replies")?;
-        write_json_reply_lists(writer, history)?;
+    match history {
+        Some(history) => {
+            writer.key("replies")?;
+            write_json_reply_lists(writer, history)?;
+            write_json_times_and_item_end(writer, &history.times)
+        }
+        None => writer.end_object(),
     }
-    writer.end_object()
 }
 
 /// Writes the suffix, if it has commands, and what comes after it.
@@ -239,14 +246,15 @@ fn write_json_item(
     write_json_suffix_replies_and_item_end(writer, model, case.suffix.as_slice(), history)
 }
 
-/// The JSON of a run spells its tree, so it is read back as an equal run. This only learns what the types of the model and of
-/// the case keep.
+/// The JSON of a run spells its tree, so it is read back as an equal run. This only learns what the types of the model,
+/// of the case and of the times keep.
 pub fn prove_json_is_read_back(typed: &Typed, run: &Run)
     requires { IsLawful typed.now run.now }
     ensures { item_form typed.now (spec.run_json typed.now run.now) ≡ trees.run_form typed.now run.now }
 {
     let _model = typed.source();
     let _case = run.shaped.case();
+    prove_times_are_small(&run.history);
 }
 
 /// The JSON of a run, and a line end.

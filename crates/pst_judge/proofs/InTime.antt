@@ -5,17 +5,15 @@ use Rattle.std.proofs.lemmas.Bool.Decides.{nat_tests}
 use Rattle.std.proofs.lemmas.List.{get_or-set_same, get_or-set_other}
 use Rattle.std.proofs.lemmas.Option.{get_or_from_slice_get, slice_get-get_or, slice_get_cases, slice_get_within}
 use Rattle.std.specs.Prelude.{◌==◌, slice_get, if◌then◌else◌, MatchOption}
-use Rattle.std.specs.declared.alloc.Global.{Global}
-use Rattle.std.specs.declared.vec.Vec.{Vec}
 use Rattle.pst_grid.specs.Completions.{IsAt, Completes}
 use Rattle.pst_grid.specs.Merges.{times, one_more, none_done}
 use Rattle.pst_grid.specs.Orders.{IsInOrder, IsMergeInOrder}
-use Rattle.pst_grid.specs.RealTime.{is_over, precedes, command_in, next_of, one_precedes, may_come, real_time, count_of, AreLengths, IsTimely, AreTimely}
-use Rattle.pst_grid.specs.declared.real_time.CommandTime.{CommandTime}
+use Rattle.pst_judge.specs.RealTime.{is_over, precedes, call_in, next_of, one_precedes, may_come, real_time, count_of, AreLengths, IsTimely, AreTimely}
+use Rattle.pst_case.specs.declared.history.CallTime.{CallTime}
 use Rattle.pst_grid.proofs.Answering.{IsAt-none, merge}
 use Rattle.pst_grid.proofs.Completing.{Completes-head, Completes-tail}
 use Rattle.pst_grid.proofs.Placing.{IsAt-branch, IsAt-more}
-use Rattle.pst_grid.proofs.Timely.{precedes-some, precedes-none}
+use Rattle.pst_judge.proofs.Timely.{precedes-some, precedes-none}
 use Rattle.pst_judge.specs.InTime.{command_at, call_at, call_after, AreInTurn, AreTimesOf, IsMergeInTime, RealTimeIsOrderInTime}
 
 -- a letter more
@@ -37,68 +35,68 @@ first_place c (a ∷ w) h = by (cases_eq a c) (λ k. first_place c w k)
         let p = again (omega (arith, h, times-other a c w ne)) in
         (suc p.0, p.1, omega (arith, times-other a c (take p.0 w) ne, p.2))
 
-module _ (branches : List (Vec CommandTime Global)) where
+module _ (branches : List (List CallTime)) where
   -- the command at a place of a word that follows so many commands of each branch
-  abbrev call_of : List ℕ → List ℕ → Option ℕ → Option CommandTime
+  abbrev call_of : List ℕ → List ℕ → Option ℕ → Option CallTime
   call_of done before None = None
   call_of done before (Some b) = command_at branches b (get_or done b 0 + times b before)
 
-  abbrev call_from : List ℕ → List ℕ → ℕ → Option CommandTime
+  abbrev call_from : List ℕ → List ℕ → ℕ → Option CallTime
   call_from done w i = call_of done (take i w) (slice_get w i)
 
   -- no command is in the word before one that precedes it
   abbrev IsInTimeFrom : List ℕ → List ℕ → Type 0
-  IsInTimeFrom done w = (i j : ℕ) (x y : CommandTime) → i < j → call_from done w i ≡ Some x → call_from done w j ≡ Some y → precedes y x ≡ false
+  IsInTimeFrom done w = (i j : ℕ) (x y : CallTime) → i < j → call_from done w i ≡ Some x → call_from done w j ≡ Some y → precedes y x ≡ false
 
   -- the next command of a branch, by its index
-  next-at : (done : List ℕ) (b : ℕ) (x : CommandTime) → next_of branches done b ≡ Some x → command_at branches b (get_or done b 0) ≡ Some x
+  next-at : (done : List ℕ) (b : ℕ) (x : CallTime) → next_of branches done b ≡ Some x → command_at branches b (get_or done b 0) ≡ Some x
   next-at done b x h = by (slice_get branches b) (slice_get done b) refl refl
     where
-      by : (o : Option (Vec CommandTime Global)) (p : Option ℕ) → slice_get branches b ≡ o → slice_get done b ≡ p → command_at branches b (get_or done b 0) ≡ Some x
-      by None p e f = let q : None ≡ Some x = sym (ap (λ o. command_in o (slice_get done b)) e) ∙ h in absurd (cc)
-      by (Some v) None e f = let q : None ≡ Some x = sym (ap (λ o. command_in o (slice_get done b)) e ∙ ap (λ o. command_in (Some v) o) f) ∙ h in absurd (cc)
+      by : (o : Option (List CallTime)) (p : Option ℕ) → slice_get branches b ≡ o → slice_get done b ≡ p → command_at branches b (get_or done b 0) ≡ Some x
+      by None p e f = let q : None ≡ Some x = sym (ap (λ o. call_in o (slice_get done b)) e) ∙ h in absurd (cc)
+      by (Some v) None e f = let q : None ≡ Some x = sym (ap (λ o. call_in o (slice_get done b)) e ∙ ap (λ o. call_in (Some v) o) f) ∙ h in absurd (cc)
       by (Some v) (Some i) e f =
           let same : get_or done b 0 ≡ i = get_or_from_slice_get done b i 0 f in
-          ap (λ k. command_in (slice_get branches b) (Some k)) same ∙ sym (ap (λ o. command_in (slice_get branches b) o) f) ∙ h
+          ap (λ k. call_in (slice_get branches b) (Some k)) same ∙ sym (ap (λ o. call_in (slice_get branches b) o) f) ∙ h
 
-  at-next : (done : List ℕ) (b : ℕ) (x : CommandTime) → b < length done → command_at branches b (get_or done b 0) ≡ Some x → next_of branches done b ≡ Some x
-  at-next done b x l h = ap (λ o. command_in (slice_get branches b) o) (slice_get-get_or done b 0 l) ∙ h
+  at-next : (done : List ℕ) (b : ℕ) (x : CallTime) → b < length done → command_at branches b (get_or done b 0) ≡ Some x → next_of branches done b ≡ Some x
+  at-next done b x l h = ap (λ o. call_in (slice_get branches b) o) (slice_get-get_or done b 0 l) ∙ h
 
   -- where a branch has a command it has those before it
-  earlier-at : (b i k : ℕ) (y : CommandTime) → i ≤ k → command_at branches b k ≡ Some y → (x : CommandTime) × (command_at branches b i ≡ Some x)
+  earlier-at : (b i k : ℕ) (y : CallTime) → i ≤ k → command_at branches b k ≡ Some y → (x : CallTime) × (command_at branches b i ≡ Some x)
   earlier-at b i k y l h = by (slice_get branches b) refl
     where
-      by : (o : Option (Vec CommandTime Global)) → slice_get branches b ≡ o → (x : CommandTime) × (command_at branches b i ≡ Some x)
-      by None e = let q : None ≡ Some y = sym (ap (λ o. command_in o (Some k)) e) ∙ h in absurd (cc)
+      by : (o : Option (List CallTime)) → slice_get branches b ≡ o → (x : CallTime) × (command_at branches b i ≡ Some x)
+      by None e = let q : None ≡ Some y = sym (ap (λ o. call_in o (Some k)) e) ∙ h in absurd (cc)
       by (Some v) e =
-          let q : slice_get v.items k ≡ Some y = sym (ap (λ o. command_in o (Some k)) e) ∙ h in
-          let w = slice_get_within v.items k y q in
-          elim ((slice_get_cases v.items i).1) [
-            | inl p ↦ (p.0, ap (λ o. command_in o (Some i)) e ∙ p.2)
+          let q : slice_get v k ≡ Some y = sym (ap (λ o. call_in o (Some k)) e) ∙ h in
+          let w = slice_get_within v k y q in
+          elim ((slice_get_cases v i).1) [
+            | inl p ↦ (p.0, ap (λ o. call_in o (Some i)) e ∙ p.2)
             | inr p ↦ absurd (omega (arith, p.0, w, l))
           ]
 
   -- it is there for each command that the branch has
-  within-at : (lengths : List ℕ) → AreLengths branches lengths → (b i : ℕ) (x : CommandTime) → command_at branches b i ≡ Some x → i < get_or lengths b 0
+  within-at : (lengths : List ℕ) → AreLengths branches lengths → (b i : ℕ) (x : CallTime) → command_at branches b i ≡ Some x → i < get_or lengths b 0
   within-at lengths are b i x h = by (slice_get branches b) refl
     where
-      by : (o : Option (Vec CommandTime Global)) → slice_get branches b ≡ o → i < get_or lengths b 0
-      by None e = let q : None ≡ Some x = sym (ap (λ o. command_in o (Some i)) e) ∙ h in absurd (cc)
+      by : (o : Option (List CallTime)) → slice_get branches b ≡ o → i < get_or lengths b 0
+      by None e = let q : None ≡ Some x = sym (ap (λ o. call_in o (Some i)) e) ∙ h in absurd (cc)
       by (Some v) e =
-          let q : slice_get v.items i ≡ Some x = sym (ap (λ o. command_in o (Some i)) e) ∙ h in
-          let n : get_or lengths b 0 ≡ length v.items = are b ∙ ap count_of e in
-          omega (arith, n, slice_get_within v.items i x q)
+          let q : slice_get v i ≡ Some x = sym (ap (λ o. call_in o (Some i)) e) ∙ h in
+          let n : get_or lengths b 0 ≡ length v = are b ∙ ap count_of e in
+          omega (arith, n, slice_get_within v i x q)
 
   -- the branch is one of them
-  branch-at : (b i : ℕ) (x : CommandTime) → command_at branches b i ≡ Some x → b < length branches
+  branch-at : (b i : ℕ) (x : CallTime) → command_at branches b i ≡ Some x → b < length branches
   branch-at b i x h = by (slice_get branches b) refl
     where
-      by : (o : Option (Vec CommandTime Global)) → slice_get branches b ≡ o → b < length branches
-      by None e = let q : None ≡ Some x = sym (ap (λ o. command_in o (Some i)) e) ∙ h in absurd (cc)
+      by : (o : Option (List CallTime)) → slice_get branches b ≡ o → b < length branches
+      by None e = let q : None ≡ Some x = sym (ap (λ o. call_in o (Some i)) e) ∙ h in absurd (cc)
       by (Some v) e = slice_get_within branches b v e
 
   -- a command is not over before it is invoked
-  not-over : (x : CommandTime) → IsTimely x → precedes x x ≡ false
+  not-over : (x : CallTime) → IsTimely x → precedes x x ≡ false
   not-over x timely = by x.completed refl timely
     where
       by : (o : Option ℕ) → x.completed ≡ o → MatchOption o (Unit {0}) (λ t. x.invoked ≤ t) → is_over o x.invoked ≡ false
@@ -115,7 +113,7 @@ module _ (branches : List (Vec CommandTime Global)) where
 
   module _ (timely : AreTimely branches) (turns : AreInTurn branches) where
     -- if a command is over, so are those of its branch before it
-    earlier-over : (n b i : ℕ) (x y : CommandTime) (t : ℕ) → command_at branches b i ≡ Some x → command_at branches b (i + n) ≡ Some y → is_over y.completed t ≡ true → is_over x.completed t ≡ true
+    earlier-over : (n b i : ℕ) (x y : CallTime) (t : ℕ) → command_at branches b i ≡ Some x → command_at branches b (i + n) ≡ Some y → is_over y.completed t ≡ true → is_over x.completed t ≡ true
     earlier-over zero b i x y t hx hy over =
         let z : i + 0 ≡ i = omega arith in
         let q : Some x ≡ Some y = sym hx ∙ sym (ap (command_at branches b) z) ∙ hy in
@@ -156,7 +154,7 @@ module _ (branches : List (Vec CommandTime Global)) where
           inside = IsAt-branch lengths done b at left
 
           -- a later call does not precede the first one
-          head : (o : Option ℕ) (before : List ℕ) (x y : CommandTime) → command_at branches b (get_or done b 0) ≡ Some x → call_of done before o ≡ Some y → (r : Bool) → precedes y x ≡ r → r ≡ false
+          head : (o : Option ℕ) (before : List ℕ) (x y : CallTime) → command_at branches b (get_or done b 0) ≡ Some x → call_of done before o ≡ Some y → (r : Bool) → precedes y x ≡ r → r ≡ false
           head None before x y hx hy r e = absurd (cc)
           head (Some c) before x y hx hy false e = refl
           head (Some c) before x y hx hy true e =
@@ -193,7 +191,7 @@ module _ (branches : List (Vec CommandTime Global)) where
           inside = IsAt-branch lengths done b at left
 
           -- another branch's next command is in the word later
-          one : (x : CommandTime) → next_of branches done b ≡ Some x → (c : ℕ) (o : Option CommandTime) → next_of branches done c ≡ o → one_precedes o x ≡ false
+          one : (x : CallTime) → next_of branches done b ≡ Some x → (c : ℕ) (o : Option CallTime) → next_of branches done c ≡ o → one_precedes o x ≡ false
           one x hx c None e = refl
           one x hx c (Some z) e = elim (cases_eq c b) [
             | inl same ↦ (let q : Some z ≡ Some x = sym e ∙ ap (next_of branches done) same ∙ hx in
@@ -209,7 +207,7 @@ module _ (branches : List (Vec CommandTime Global)) where
                 time 0 (suc p.0) x z (omega arith) (ap (command_at branches b) zero_x ∙ next-at done b x hx) at_z)
           ]
 
-          opens : (o : Option CommandTime) → next_of branches done b ≡ o → may_come (next_of branches done) (length branches) o ≡ true
+          opens : (o : Option CallTime) → next_of branches done b ≡ o → may_come (next_of branches done) (length branches) o ≡ true
           opens None e = refl
           opens (Some x) e = ap not (precedes-none (next_of branches done) (length branches) x (λ c l. one x e c (next_of branches done c) refl))
 
@@ -222,14 +220,14 @@ zeros zero b = refl
 zeros (suc n) zero = refl
 zeros (suc n) (suc b) = zeros n b
 
-none-of : (branches : List (Vec CommandTime Global)) (lengths w : List ℕ) (i : ℕ) → call_from branches (none_done lengths) w i ≡ call_at branches w i
+none-of : (branches : List (List CallTime)) (lengths w : List ℕ) (i : ℕ) → call_from branches (none_done lengths) w i ≡ call_at branches w i
 none-of branches lengths w i = by (slice_get w i)
   where
     by : (o : Option ℕ) → call_of branches (none_done lengths) (take i w) o ≡ call_after branches (take i w) o
     by None = refl
     by (Some b) = let z = zeros (length lengths) b in let n : get_or (none_done lengths) b 0 + times b (take i w) ≡ times b (take i w) = omega (arith, z) in ap (command_at branches b) n
 
-module _ (lengths : List ℕ) (branches : List (Vec CommandTime Global)) (are : AreTimesOf lengths branches) (w : List ℕ) where
+module _ (lengths : List ℕ) (branches : List (List CallTime)) (are : AreTimesOf lengths branches) (w : List ℕ) where
   pub order_to_time : IsMergeInOrder (real_time branches) lengths w → IsMergeInTime branches lengths w
   order_to_time k = (
     k.0,

@@ -6,6 +6,7 @@ use Rattle.pst_grid.specs.Merges.{IsUpTo, IsLeast}
 use Rattle.pst_grid.specs.declared.steps.Ending.TheVariants.{AllTrue, StopsAt}
 use Rattle.pst_grid.specs.declared.steps.StopReason.TheVariants as stop
 use Rattle.pst_judge.specs.Judgement.{IsJudgementOf}
+use Rattle.pst_judge.specs.Verdict.{IsVerdict}
 use Rattle.pst_judge.specs.Replay.{replayed}
 use Rattle.pst_case.specs.Recorded.{recorded}
 use Rattle.pst_judge.specs.Same.{SameVerdict, SameWhy, SameJudgement, OneVerdict, OneWhy, OneJudgement}
@@ -118,7 +119,7 @@ module _ (m : Source) (c : Case) where
   valid_no_why (CallbackFault place merge) p q = q.0.0.1 (p merge.items q.0.0.0)
   valid_no_why NoMemory p q = q
 
-  one_judgement_of : (h : Option History) (v w : Judged) → IsJudgementOf m c h v → IsJudgementOf m c h w → SameJudgement v w
+  one_judgement_of : (h : Option History) (v w : Judged) → IsJudgementOf m c (IsVerdict m c) h v → IsJudgementOf m c (IsVerdict m c) h w → SameJudgement v w
   one_judgement_of None (WithVerdict v) w p q = absurd p
   one_judgement_of None Valid (WithVerdict w) p q = absurd q
   one_judgement_of None Valid Valid p q = record {}

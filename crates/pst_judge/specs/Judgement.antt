@@ -1,5 +1,8 @@
 -- The judgement of an item: the verdict on its history, or whether its case is valid.
 use Rattle.std.specs.Prelude.{◌≡◌, true, Option, Some, None}
+use Rattle.pst_judge.specs.ByOrder.{IsVerdictBy}
+use Rattle.pst_judge.specs.declared.by_order.CallOrder.{CallOrder}
+use Rattle.pst_judge.specs.declared.judgement.Verdict.{Verdict}
 use Rattle.pst_case.specs.Matches.{matches}
 use Rattle.pst_case.specs.declared.case.Case.{Case}
 use Rattle.pst_case.specs.declared.history.History.{History}
@@ -15,18 +18,22 @@ module _ (m : Source) (c : Case) where
   MatchesIfAny None = Unit {0}
   MatchesIfAny (Some h) = matches m c h ≡ true
 
-  -- without a history: valid, or the reason why not; with a history: its verdict
-  abbrev pub IsJudgementOf : Option History → Judged → Type 0
-  IsJudgementOf None (WithVerdict v) = ⊥
-  IsJudgementOf None Valid = IsValid m c
-  IsJudgementOf None (Invalid why) = IsWhy m c why
-  IsJudgementOf (Some h) (WithVerdict v) = IsVerdict m c h v
-  IsJudgementOf (Some h) Valid = ⊥
-  IsJudgementOf (Some h) (Invalid why) = ⊥
+  -- without a history: valid, or the reason why not; with a history: the verdict on it
+  abbrev pub IsJudgementOf : (History → Verdict → Type 0) → Option History → Judged → Type 0
+  IsJudgementOf IsGiven None (WithVerdict v) = ⊥
+  IsJudgementOf IsGiven None Valid = IsValid m c
+  IsJudgementOf IsGiven None (Invalid why) = IsWhy m c why
+  IsJudgementOf IsGiven (Some h) (WithVerdict v) = IsGiven h v
+  IsJudgementOf IsGiven (Some h) Valid = ⊥
+  IsJudgementOf IsGiven (Some h) (Invalid why) = ⊥
 
 -- the item's history, if it has one, matches its case
 abbrev pub HistoryMatches : Source → Run → Type 0
 HistoryMatches m run = MatchesIfAny m run.shaped.case run.history
 
 abbrev pub IsJudgement : Source → Run → Judged → Type 0
-IsJudgement m run judged = IsJudgementOf m run.shaped.case run.history judged
+IsJudgement m run = IsJudgementOf m run.shaped.case (IsVerdict m run.shaped.case) run.history
+
+-- the same with the verdict by an order of the calls
+abbrev pub IsJudgementBy : CallOrder → Source → Run → Judged → Type 0
+IsJudgementBy order m run = IsJudgementOf m run.shaped.case (IsVerdictBy order m run.shaped.case) run.history

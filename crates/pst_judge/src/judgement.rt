@@ -1,14 +1,14 @@
 //! The judgement of an item, the verdict on a history, and interleavings, each with its printed text.
-ghost use Rattle.std.specs.Prelude.{◌≡◌, IfOk, string_bytes, ◌∷◌, []};
+ghost use Rattle.std.specs.Prelude.{◌≡◌, IfOk, string_bytes, ◌∷◌, [], None};
 ghost use Rattle.pst_judge.specs.JudgedText.{judged_text};
-ghost use Rattle.pst_judge.specs.Judgement.{HistoryMatches, IsJudgement};
+ghost use Rattle.pst_judge.specs.Judgement.{HistoryMatches, IsJudgement, IsJudgementOf};
 ghost use Rattle.pst_judge.specs.VerdictText.{verdict_text};
 ghost use Rattle.pst_judge.specs.Words.{letter};
 
 use crate::judging::verdict;
 use crate::validated::Why;
 use crate::validity::why_invalid;
-use pst_case::Run;
+use pst_case::{Run, Shaped};
 use pst_eval::{Callbacks, FaultPlace};
 use std::alloc::{AllocError, Global};
 use std::fmt;
@@ -24,6 +24,22 @@ pub enum Judged {
     Invalid(Why),
 }
 
+/// Whether a case is valid, as a judgement.
+pub(crate) fn judge_case<C: Callbacks>(
+    callbacks: &C,
+    alloc: Global,
+    shaped: &Shaped,
+) -> Result<Judged, AllocError>
+    requires { shaped.now.model ≡ C.model callbacks.now }
+    ensures { IfOk result
+        (IsJudgementOf (C.model callbacks.now) shaped.now.case (λ _ _. ⊥) None) }
+{
+    match why_invalid(callbacks, alloc, shaped)? {
+        Some(why) => Ok(Judged::Invalid(why)),
+        None => Ok(Judged::Valid),
+    }
+}
+
 /// Returns the verdict on the item's history or, if the item has no history, whether its case is valid.
 pub fn judge_one<C: Callbacks>(
     callbacks: &C,
@@ -36,10 +52,7 @@ pub fn judge_one<C: Callbacks>(
 {
     match &run.history {
         Some(history) => Ok(Judged::Verdict(verdict(callbacks, alloc, &run.shaped, history)?)),
-        None => match why_invalid(callbacks, alloc, &run.shaped)? {
-            Some(why) => Ok(Judged::Invalid(why)),
-            None => Ok(Judged::Valid),
-        },
+        None => judge_case(callbacks, alloc, &run.shaped),
     }
 }
 

@@ -6,7 +6,6 @@ ghost use Rattle.pst_case.specs.Shape.{IsShaped};
 ghost use Rattle.pst_grid.specs.Orders.{NeverBlocks};
 ghost use Rattle.pst_judge.specs.FromAnswer.{IsVerdictOfSearch};
 ghost use Rattle.pst_judge.specs.InOrder.{HasLettersAmong, HasLettersInOrderAsking, IsInterleavingInOrder, IsJudgedAmong, IsRunInOrder, IsVerdictInOrder, IsVerdictInOrderAsking};
-ghost use Rattle.pst_judge.specs.InTime.{AreTimesOf, IsVerdictInTime};
 ghost use Rattle.pst_judge.specs.Interleaving.{IsInterleaving, word_or};
 ghost use Rattle.pst_judge.specs.Real.{FaultsOnlyInPost};
 ghost use Rattle.pst_judge.specs.Replay.{branch_events, branch_lengths, suffix_events};
@@ -21,7 +20,7 @@ use crate::replay::{Condition, EventsEnd, Postconditions, run_events};
 use crate::search::search;
 use pst_case::{History, Shaped};
 use pst_eval::{Callback, Callbacks, FaultPlace};
-use pst_grid::{AnyOrder, Order, RealTime, StopReason};
+use pst_grid::{AnyOrder, Order, StopReason};
 use pst_value::Value;
 use std::alloc::{AllocError, Global};
 
@@ -195,7 +194,7 @@ pub fn verdict_with_condition<C: Callbacks, A: Condition>(
 /// Returns the verdict on a history of a case over the interleavings in `order`, by the model of the callbacks.
 ///
 /// It is [`verdict`] where only the interleavings in the order count: one that is not in order does not count, wherever
-/// it would stop. With the times of the calls, [`RealTime`], a history is explained if it is *linearizable*; with
+/// it would stop. With the times of the calls, [`crate::RecordedOrder`], a history is explained if it is *linearizable*; with
 /// [`AnyOrder`] it is explained if it is *sequentially consistent*. The order must never block: wherever commands of
 /// the branches are left, some branch that has one is open. `AllocError` means that an allocation failed.
 pub fn verdict_in_order<C: Callbacks, O: Order>(
@@ -238,31 +237,6 @@ pub fn verdict<C: Callbacks>(
 {
     let _case = shaped.case();
     verdict_with_condition(callbacks, &Postconditions, alloc, shaped, history)
-}
-
-/// Returns the verdict on a history of a case whose calls have times, by the model of the callbacks.
-///
-/// An interleaving counts if no call is in it before one that precedes it in time: one that completed before it was
-/// invoked. The verdict is `Explained` if the history is *linearizable*. `times` has the times of each branch's calls.
-/// None completed before it was invoked, and each but the last of a branch completed no later than the next was invoked.
-/// The calls of the prefix are before all others, and those of the suffix after. `AllocError` means that an allocation
-/// failed.
-pub fn verdict_in_time<C: Callbacks>(
-    callbacks: &C,
-    times: &RealTime,
-    alloc: Global,
-    shaped: &Shaped,
-    history: &History,
-) -> Result<Verdict, AllocError>
-    requires model { shaped.now.model ≡ C.model callbacks.now }
-    requires matches { matches (C.model callbacks.now) shaped.now.case history.now ≡ true }
-    requires times { AreTimesOf (branch_lengths shaped.now.case) times.now.branches.items }
-    ensures verdict { IfOk result
-        (IsVerdictInTime (C.model callbacks.now) times.now.branches.items shaped.now.case history.now) }
-    ensures faults { IfOk result (λ v. WellModel (C.model callbacks.now)
-        → IsValid (C.model callbacks.now) shaped.now.case → FaultsOnlyInPost v) }
-{
-    verdict_in_order(callbacks, times, alloc, shaped, history)
 }
 
 /// The interleaving of a verdict that explains, or else `letters`.

@@ -37,8 +37,8 @@ fn any_holds_head(forms: &[Form], words: &[&str]) -> bool {
     false
 }
 
-/// Adds the way from the tree to the first `get` in it to `path`, and returns true. Returns false if there is none, and
-/// `path` stays the same.
+/// Adds the way from the tree to the first `get` in it to `path`, and returns true. Without a `get` it returns false and
+/// leaves `path` as it is.
 fn extend_path_to_first_get(form: &Form, path: &mut Vec<usize>) -> Result<bool, AllocError> {
     let Form::Node(parts) = form else {
         return Ok(false);

@@ -7,7 +7,7 @@ use pst_case::{Case, Command, Run};
 use pst_eval::Callbacks;
 use pst_judge::{Condition, Event, bool_of_value};
 use pst_model::{Expr, Item};
-use pst_reasons::{RecordedRun, states};
+use pst_reasons::{AnyOrder, RecordedRun, states};
 use pst_value::{Fault, Value};
 use std::alloc::{AllocError, Global};
 
@@ -114,6 +114,7 @@ pub fn first_untrue_precondition_if_results_known<C: Callbacks>(
     }
     let recorded = RecordedRun {
         callbacks,
+        order: &AnyOrder,
         alloc,
         shaped: &run.shaped,
         history,

@@ -137,4 +137,4 @@ module _ (m : Source) (s : Value) (e : Event) (has : HasEquality m e.op) where
           ∙ second_judged (other_side v) v w (sym (right_second is v) ∙ right) other
 
 pub equality_has_one_answer : EqualityHasOneAnswer
-equality_has_one_answer m c h others number equal s e v w event same right other = one_right m s e (equal e event same) v w right other
+equality_has_one_answer m c h number equal s e v w event same right other = one_right m s e (equal e event same) v w right other

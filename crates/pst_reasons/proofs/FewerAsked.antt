@@ -11,8 +11,7 @@ use Rattle.pst_operators.specs.Outcome.{Outcome, Gives}
 use Rattle.pst_reasons.proofs.Among.{same_number, in_first, in_second, in_either, among_without, to_without, among_numbers}
 use Rattle.pst_reasons.proofs.Fewer.{EachEvent, EachOfBranches, SaysTrue, replayed_true}
 use Rattle.pst_reasons.proofs.Numbered.{IsUpTo, prefix_numbered, branches_numbered, suffix_numbered}
-use Rattle.pst_reasons.specs.Reasons.{is_among, without, numbers_to, number_of_commands, asks, always_true}
-use Rattle.pst_reasons.specs.InOrder.{IsPossibleAmong, IsImpossibleAmong, IsCoreAmong, IsNeededAmong, IsUnexplainedAmong}
+use Rattle.pst_reasons.specs.Reasons.{is_among, without, numbers_to, number_of_commands, asks, always_true, IsPossible, IsImpossible, IsNeeded, IsUnexplained}
 use Rattle.pst_value.specs.declared.value.Value.{Value, out-roll-Value, Bool as Truth}
 use Rattle.pst_value.specs.declared.value.Value.TheOpen.{Value-F}
 use Rattle.pst_value.specs.declared.value.Value.TheVariants.{rolls-Bool}
@@ -40,13 +39,13 @@ asked_all : (o : Outcome (Value × ℕ)) (x : Bool) → x ≡ true → SaysTrue 
 asked_all o true is h = h
 asked_all o false is h = absurd (cc)
 
-module _ (m : Source) (c : Case) (h : History) (W : List ℕ → Type 0) where
-  pub possible_fewer : (few many : List ℕ) → ((x : ℕ) → is_among x few ≡ true → is_among x many ≡ true) → IsPossibleAmong m c h W many → IsPossibleAmong m c h W few
+module _ (m : Source) (order : List ℕ → ℕ → Bool) (c : Case) (h : History) where
+  pub possible_fewer : (few many : List ℕ) → ((x : ℕ) → is_among x few ≡ true → is_among x many ≡ true) → IsPossible m order c h many → IsPossible m order c h few
   possible_fewer few many within p =
       (p.0, (p.1.0, replayed_true m (asks many m) (asks few m) Any (λ s e any k. asked_less (post_asked m s e) (is_among e.number few) (is_among e.number many) (within e.number) k) c h (each_any _) (branches_any _) (each_any _) p.0 p.1.1))
 
   -- the postconditions of all commands are all postconditions
-  pub all_impossible : IsUnexplainedAmong m c h W → IsImpossibleAmong m c h W (numbers_to (number_of_commands c))
+  pub all_impossible : IsUnexplained m order c h → IsImpossible m order c h (numbers_to (number_of_commands c))
   all_impossible none p =
       let last = number_of_commands c in
       none p.0 p.1.0 (replayed_true m (asks (numbers_to last) m) (post_asked m) (IsUpTo last) (λ s e up k. asked_all (post_asked m s e) (is_among e.number (numbers_to last)) (among_numbers last e.number up.0 up.1) k) c h (prefix_numbered c h) (branches_numbered c h) (suffix_numbered c h) p.0 p.1.1)
@@ -54,11 +53,11 @@ module _ (m : Source) (c : Case) (h : History) (W : List ℕ → Type 0) where
   moved_over : (front core : List ℕ) (n : ℕ) → (front ++ n ∷ []) ++ core ≡ front ++ n ∷ core
   moved_over front core n = append_assoc front (n ∷ []) core
 
-  pub kept_impossible : (front core : List ℕ) (n : ℕ) → IsImpossibleAmong m c h W ((front ++ n ∷ []) ++ core) → IsImpossibleAmong m c h W (front ++ n ∷ core)
-  kept_impossible front core n = subst (IsImpossibleAmong m c h W) (moved_over front core n)
+  pub kept_impossible : (front core : List ℕ) (n : ℕ) → IsImpossible m order c h ((front ++ n ∷ []) ++ core) → IsImpossible m order c h (front ++ n ∷ core)
+  kept_impossible front core n = subst (IsImpossible m order c h) (moved_over front core n)
 
   -- a number is needed without which the others are possible
-  pub kept_needed : (front core : List ℕ) (n : ℕ) → IsNeededAmong m c h W (front ++ n ∷ []) core → IsPossibleAmong m c h W (front ++ core) → IsNeededAmong m c h W front (n ∷ core)
+  pub kept_needed : (front core : List ℕ) (n : ℕ) → IsNeeded m order c h (front ++ n ∷ []) core → IsPossible m order c h (front ++ core) → IsNeeded m order c h front (n ∷ core)
   kept_needed front core n needed possible k member = at (n == k) refl
     where
       smaller : (n == k) ≡ true → (x : ℕ) → is_among x (without k (front ++ n ∷ core)) ≡ true → is_among x (front ++ core) ≡ true
@@ -72,15 +71,15 @@ module _ (m : Source) (c : Case) (h : History) (W : List ℕ → Type 0) where
           side (inl r) other = in_first x front core r
           side (inr r) other = in_second x front core (rest (n == x) refl r other)
 
-      at : (b : Bool) → (n == k) ≡ b → IsPossibleAmong m c h W (without k (front ++ n ∷ core))
+      at : (b : Bool) → (n == k) ≡ b → IsPossible m order c h (without k (front ++ n ∷ core))
       at true is = possible_fewer (without k (front ++ n ∷ core)) (front ++ core) (smaller is) possible
       at false is =
           let z : is_among k core ≡ true = (let y : is_among k (n ∷ core) ≡ is_among k core = ap (λ b. b || is_among k core) is in cc) in
-          let P : List ℕ → Type 0 = λ xs. IsPossibleAmong m c h W (without k xs) in
+          let P : List ℕ → Type 0 = λ xs. IsPossible m order c h (without k xs) in
           subst P (moved_over front core n) (needed k z)
 
   -- what is needed stays so where another is left out
-  pub left_needed : (front core : List ℕ) (n : ℕ) → IsNeededAmong m c h W (front ++ n ∷ []) core → IsNeededAmong m c h W front core
+  pub left_needed : (front core : List ℕ) (n : ℕ) → IsNeeded m order c h (front ++ n ∷ []) core → IsNeeded m order c h front core
   left_needed front core n needed k member =
       possible_fewer (without k (front ++ core)) (without k ((front ++ n ∷ []) ++ core)) smaller (needed k member)
     where
@@ -90,11 +89,3 @@ module _ (m : Source) (c : Case) (h : History) (W : List ℕ → Type 0) where
           side : (is_among x front ≡ true) ⊎ (is_among x core ≡ true) → is_among x ((front ++ n ∷ []) ++ core) ≡ true
           side (inl r) = in_first x (front ++ n ∷ []) core (in_first x front (n ∷ []) r)
           side (inr r) = in_second x (front ++ n ∷ []) core r
-
--- over the same merges by another name
-module _ (m : Source) (c : Case) (h : History) (V W : List ℕ → Type 0) (to : (w : List ℕ) → V w → W w) (from : (w : List ℕ) → W w → V w) where
-  pub same_core : (numbers : List ℕ) → IsCoreAmong m c h V numbers → IsCoreAmong m c h W numbers
-  same_core numbers k = (
-    λ p. k.0 (p.0, (from p.0 p.1.0, p.1.1)),
-    λ number member. let p = k.1 number member in (p.0, (to p.0 p.1.0, p.1.1)),
-  )

@@ -56,8 +56,8 @@ pub decided : (b : Bool) → (b ≡ true) ⊎ (b ≡ false)
 decided true = inl refl
 decided false = inr refl
 
-module _ (m : Source) (c : Case) (h : History) (others : List ℕ) (number : ℕ) (one : HasOneAnswer m c h others number) where
-  others_wrong : (s : Value) (e : Event) (answer : Value) → IsEvent m c h others number e → e.number ≡ number → is_right m s e answer ≡ Gives true
+module _ (m : Source) (order : List ℕ → ℕ → Bool) (c : Case) (h : History) (others : List ℕ) (number : ℕ) (one : HasOneAnswer m c h number) where
+  others_wrong : (s : Value) (e : Event) (answer : Value) → IsEvent c h e → e.number ≡ number → is_right m s e answer ≡ Gives true
       → (answers : List Value) → is_one_of answer answers ≡ false → one_is_right m s e answers ≡ Gives false
   others_wrong s e answer event same right [] none = refl
   others_wrong s e answer event same right (x ∷ answers) none =
@@ -67,7 +67,7 @@ module _ (m : Source) (c : Case) (h : History) (others : List ℕ) (number : ℕ
 
   module _ (answer : Value) (answers : List Value) (none : is_one_of answer answers ≡ false) where
     -- where the answer is right, none of those is
-    less : (s : Value) (e : Event) → IsEvent m c h others number e → SaysTrue (asks_instead number answer others m s e) → SaysTrue (asks_none_of number answers others m s e)
+    less : (s : Value) (e : Event) → IsEvent c h e → SaysTrue (asks_instead number answer others m s e) → SaysTrue (asks_none_of number answers others m s e)
     less s e event k = at (e.number == number) refl k
       where
         at : (b : Bool) → (e.number == number) ≡ b → SaysTrue (if b then as_asked (is_right m s e answer) else asks others m s e) → SaysTrue (if e.number == number then as_asked (none_is_right m s e answers) else asks others m s e)
@@ -80,7 +80,7 @@ module _ (m : Source) (c : Case) (h : History) (others : List ℕ) (number : ℕ
             let P : Bool → Type 0 = λ b. SaysTrue (if b then as_asked (none_is_right m s e answers) else asks others m s e) in
             subst P (sym is) k
 
-  pub have_each_allowed : (answers : List Value) → AreAll m c h others number answers → HaveEachAllowed m c h others number answers
+  pub have_each_allowed : (answers : List Value) → AreAll m order c h others number answers → HaveEachAllowed m order c h others number answers
   have_each_allowed answers all answer allowed = at (decided (is_one_of answer answers))
     where
       at : (is_one_of answer answers ≡ true) ⊎ (is_one_of answer answers ≡ false) → is_one_of answer answers ≡ true
@@ -88,11 +88,11 @@ module _ (m : Source) (c : Case) (h : History) (others : List ℕ) (number : ℕ
       at (inr none) = absurd (
           all allowed.0 (
             allowed.1.0,
-            replayed_true m (asks_instead number answer others m) (asks_none_of number answers others m) (IsEvent m c h others number)
+            replayed_true m (asks_instead number answer others m) (asks_none_of number answers others m) (IsEvent c h)
                 (λ s e event k. less answer answers none s e event k) c h
-                (each (IsEvent m c h others number) (prefix_events c h) (λ i e is. inl (i, is)))
+                (each (IsEvent c h) (prefix_events c h) (λ i e is. inl (i, is)))
                 (λ b i e is. inr (inl (b, i, is)))
-                (each (IsEvent m c h others number) (suffix_events c h) (λ i e is. inr (inr (i, is))))
+                (each (IsEvent c h) (suffix_events c h) (λ i e is. inr (inr (i, is))))
                 allowed.0 allowed.1.1,
           )
           )

@@ -4,16 +4,14 @@ use Rattle.std.specs.List.{All, list_any}
 use Rattle.pst_case.specs.declared.case.Case.{Case}
 use Rattle.pst_case.specs.declared.history.History.{History}
 use Rattle.pst_eval.specs.Callbacks.{post_of}
-use Rattle.pst_grid.specs.declared.steps.Ending.TheVariants.{AllTrue}
 use Rattle.pst_judge.specs.Replay.{Asking, event_at, prefix_events, branch_events, suffix_events}
-use Rattle.pst_judge.specs.Verdict.{EndsAsking}
 use Rattle.pst_judge.specs.declared.events.Event.{Event}
 use Rattle.pst_model.specs.declared.model.Source.{Source}
 use Rattle.pst_operators.specs.Answers.{Stops}
 use Rattle.pst_operators.specs.Operators.{truth_of}
 use Rattle.pst_operators.specs.Outcome.{Outcome, Gives, Faults, Stuck, and_then}
 use Rattle.pst_operators.specs.declared.stop.Stop.{Stop}
-use Rattle.pst_reasons.specs.Reasons.{asks}
+use Rattle.pst_reasons.specs.Reasons.{asks, IsTrueInOrder}
 use Rattle.pst_value.specs.Equality.{same_value}
 use Rattle.pst_value.specs.declared.fault.Fault.{Fault}
 use Rattle.pst_value.specs.declared.value.Value.{Value, Bool as Truth}
@@ -71,10 +69,11 @@ asks_none_of number answers others m = asks_at number (λ s e. none_is_right m s
 
 -- ---- allowed answers
 
-module _ (m : Source) (c : Case) (h : History) (others : List ℕ) (number : ℕ) where
+-- where only the merges in order count
+module _ (m : Source) (order : List ℕ → ℕ → Bool) (c : Case) (h : History) (others : List ℕ) (number : ℕ) where
   -- a merge in which the others are right, and the command would be with this answer
   abbrev pub IsRightIn : Value → List ℕ → Type 0
-  IsRightIn answer word = EndsAsking m (asks_instead number answer others m) c h AllTrue word
+  IsRightIn answer word = IsTrueInOrder m order c h (asks_instead number answer others m) word
 
   -- the model allows the answer: in some merge in which the others are right, it would have been right
   abbrev pub IsAllowed : Value → Type 0
@@ -86,7 +85,7 @@ module _ (m : Source) (c : Case) (h : History) (others : List ℕ) (number : ℕ
 
   -- a merge in which the others are right, and the command would be with none of these answers
   abbrev pub IsBeyond : List Value → List ℕ → Type 0
-  IsBeyond answers word = EndsAsking m (asks_none_of number answers others m) c h AllTrue word
+  IsBeyond answers word = IsTrueInOrder m order c h (asks_none_of number answers others m) word
 
   -- the model allows no more answers than are right by these: in each merge in which the others are right,
   -- one of these answers would have been right for the command, or its postcondition faults with one
@@ -98,20 +97,6 @@ module _ (m : Source) (c : Case) (h : History) (others : List ℕ) (number : ℕ
   IsWhetherAll true answers = AreAll answers
   IsWhetherAll false answers = (word : List ℕ) × IsBeyond answers word
 
-  -- an event of the history
-  abbrev pub IsEvent : Event → Type 0
-  IsEvent e =
-      ((i : ℕ) × (slice_get (prefix_events c h) i ≡ Some e))
-      ⊎ ((b : ℕ) × (i : ℕ) × (event_at (branch_events c h) b i ≡ Some e))
-      ⊎ ((i : ℕ) × (slice_get (suffix_events c h) i ≡ Some e))
-
-  -- on each state at most one answer of the command is right, and where one is, each other is wrong: as where
-  -- its postcondition is `(= r e)`, and `e` does not name `r` (`EqualityHasOneAnswer`)
-  abbrev pub HasOneAnswer : Type 0
-  HasOneAnswer =
-      (s : Value) (e : Event) (answer other : Value) → IsEvent e → e.number ≡ number
-      → is_right m s e answer ≡ Gives true → (other ≡ answer → ⊥) → is_right m s e other ≡ Gives false
-
   -- each answer that the model allows is one of these
   abbrev pub HaveEachAllowed : List Value → Type 0
   HaveEachAllowed answers = (answer : Value) → IsAllowed answer → is_one_of answer answers ≡ true
@@ -120,6 +105,22 @@ module _ (m : Source) (c : Case) (h : History) (others : List ℕ) (number : ℕ
   abbrev pub IsWhetherAllowed : Bool → Value → Type 0
   IsWhetherAllowed true answer = IsAllowed answer
   IsWhetherAllowed false answer = IsAllowed answer → ⊥
+
+-- ---- one right answer
+
+-- an event of the history
+abbrev pub IsEvent : Case → History → Event → Type 0
+IsEvent c h e =
+    ((i : ℕ) × (slice_get (prefix_events c h) i ≡ Some e))
+    ⊎ ((b : ℕ) × (i : ℕ) × (event_at (branch_events c h) b i ≡ Some e))
+    ⊎ ((i : ℕ) × (slice_get (suffix_events c h) i ≡ Some e))
+
+-- on each state at most one answer of the command is right, and where one is, each other is wrong: as where its
+-- postcondition is `(= r e)`, and `e` does not name `r` (`EqualityHasOneAnswer`)
+abbrev pub HasOneAnswer : Source → Case → History → ℕ → Type 0
+HasOneAnswer m c h number =
+    (s : Value) (e : Event) (answer other : Value) → IsEvent c h e → e.number ≡ number
+    → is_right m s e answer ≡ Gives true → (other ≡ answer → ⊥) → is_right m s e other ≡ Gives false
 
 -- ---- what the functions within the crate answer
 

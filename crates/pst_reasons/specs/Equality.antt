@@ -25,6 +25,6 @@ HasEquality m op =
 -- a command with such a postcondition has at most one right answer on each state
 abbrev pub EqualityHasOneAnswer : Type 0
 EqualityHasOneAnswer =
-    (m : Source) (c : Case) (h : History) (others : List ℕ) (number : ℕ)
-    → ((e : Event) → IsEvent m c h others number e → e.number ≡ number → HasEquality m e.op)
-    → HasOneAnswer m c h others number
+    (m : Source) (c : Case) (h : History) (number : ℕ)
+    → ((e : Event) → IsEvent c h e → e.number ≡ number → HasEquality m e.op)
+    → HasOneAnswer m c h number

@@ -1,6 +1,5 @@
 -- what the public contracts cite
 pub mod Reasons
-pub mod InOrder
 pub mod Allowed
 pub mod Equality
 pub mod Names

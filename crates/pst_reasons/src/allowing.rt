@@ -7,8 +7,7 @@ ghost use Rattle.pst_reasons.specs.Allowed as spec;
 ghost use Rattle.pst_reasons.specs.Allowed.{AreAllowedOnce, HasOneAnswer, HaveEachAllowed, IsAllowed, IsWhetherAll, AreAll, IsBeyond, IsWhetherAllowed};
 ghost use Rattle.pst_reasons.specs.Answered.{IsAnsweredRun};
 ghost use Rattle.pst_reasons.specs.Reasons as reasons;
-ghost use Rattle.pst_grid.specs.declared.steps.Ending.TheVariants.{AllTrue};
-ghost use Rattle.pst_judge.specs.Verdict.{EndsAsking};
+ghost use Rattle.pst_reasons.specs.Reasons.{IsTrueInOrder};
 
 use crate::answers::split_first_answer;
 use crate::conditions::{AnswerReplaced, AnswersExcluded};
@@ -16,7 +15,8 @@ use crate::cores::append_numbers_without;
 use crate::recorded::RecordedRun;
 use pst_case::History;
 use pst_eval::Callbacks;
-use pst_judge::{Condition, Verdict, verdict_with_condition};
+use pst_grid::Order;
+use pst_judge::{Condition, Verdict, verdict_with_condition_in_order};
 use pst_model::Source;
 use pst_value::{Items, Value};
 use std::alloc::{AllocError, Global};
@@ -52,17 +52,18 @@ fn is_answer_one_of(answer: &Value, answers: &[Value]) -> bool
 }
 
 /// Returns the proposed answer for the interleaving `word`, if it is new and the model allows it.
-fn proposed_answer_if_new_and_allowed<C: Callbacks, P: AnswerProposer>(
-    question: &AnswerQuestion<'_, C>,
+fn proposed_answer_if_new_and_allowed<C: Callbacks, O: Order, P: AnswerProposer>(
+    question: &AnswerQuestion<'_, C, O>,
     candidates: &P,
     word: &[usize],
     known: &[Value],
 ) -> Result<Option<Value>, AllocError>
     requires answered { let r = question.now.run.now in
-        IsAnsweredRun (C.model r.callbacks.now) r.shaped.now r.history.now }
+        IsAnsweredRun (C.model r.callbacks.now) (O.order r.order.now) r.shaped.now r.history.now }
     requires same { question.now.model.now ≡ C.model question.now.run.now.callbacks.now }
     ensures allowed { let q = question.now in let r = q.run.now in IfOk result (λ found. IfSome found
-        (IsAllowed (C.model r.callbacks.now) r.shaped.now.case r.history.now q.others.now q.number)) }
+        (IsAllowed (C.model r.callbacks.now) (O.order r.order.now) r.shaped.now.case r.history.now q.others.now
+        q.number)) }
     ensures new { IfOk result (λ found. IfSome found (λ value. spec.is_one_of value known.now ≡ false)) }
 {
     let Some(value) = candidates.propose_answer_for_interleaving(question.run.alloc, word)? else {
@@ -96,16 +97,17 @@ fn answers_and_recorded_answer(
 
 /// Returns the proposed answer for an interleaving in which the recorded answer and the known ones are wrong, if it is
 /// new and the model allows it. The postcondition does not fault in such an interleaving.
-fn proposed_answer_where_known_are_wrong<C: Callbacks, P: AnswerProposer>(
-    question: &AnswerQuestion<'_, C>,
+fn proposed_answer_where_known_are_wrong<C: Callbacks, O: Order, P: AnswerProposer>(
+    question: &AnswerQuestion<'_, C, O>,
     candidates: &P,
     known: &[Value],
 ) -> Result<Option<Value>, AllocError>
     requires answered { let r = question.now.run.now in
-        IsAnsweredRun (C.model r.callbacks.now) r.shaped.now r.history.now }
+        IsAnsweredRun (C.model r.callbacks.now) (O.order r.order.now) r.shaped.now r.history.now }
     requires same { question.now.model.now ≡ C.model question.now.run.now.callbacks.now }
     ensures allowed { let q = question.now in let r = q.run.now in IfOk result (λ found. IfSome found
-        (IsAllowed (C.model r.callbacks.now) r.shaped.now.case r.history.now q.others.now q.number)) }
+        (IsAllowed (C.model r.callbacks.now) (O.order r.order.now) r.shaped.now.case r.history.now q.others.now
+        q.number)) }
     ensures new { IfOk result (λ found. IfSome found (λ value. spec.is_one_of value known.now ≡ false)) }
 {
     let run = question.run;
@@ -123,18 +125,19 @@ fn proposed_answer_where_known_are_wrong<C: Callbacks, P: AnswerProposer>(
 
 /// Returns a new answer that the model allows, if `left` is not 0: the proposed answer for the interleaving `word`, or
 /// else for one in which the postcondition does not fault.
-fn find_new_allowed_answer<C: Callbacks, P: AnswerProposer>(
-    question: &AnswerQuestion<'_, C>,
+fn find_new_allowed_answer<C: Callbacks, O: Order, P: AnswerProposer>(
+    question: &AnswerQuestion<'_, C, O>,
     candidates: &P,
     word: &[usize],
     known: &[Value],
     left: u32,
 ) -> Result<Option<Value>, AllocError>
     requires answered { let r = question.now.run.now in
-        IsAnsweredRun (C.model r.callbacks.now) r.shaped.now r.history.now }
+        IsAnsweredRun (C.model r.callbacks.now) (O.order r.order.now) r.shaped.now r.history.now }
     requires same { question.now.model.now ≡ C.model question.now.run.now.callbacks.now }
     ensures allowed { let q = question.now in let r = q.run.now in IfOk result (λ found. IfSome found
-        (IsAllowed (C.model r.callbacks.now) r.shaped.now.case r.history.now q.others.now q.number)) }
+        (IsAllowed (C.model r.callbacks.now) (O.order r.order.now) r.shaped.now.case r.history.now q.others.now
+        q.number)) }
     ensures new { IfOk result (λ found. IfSome found (λ value. spec.is_one_of value known.now ≡ false)) }
     ensures few { IfOk result (λ found. IfSome found (λ value. 0 < left)) }
 {
@@ -149,21 +152,23 @@ fn find_new_allowed_answer<C: Callbacks, P: AnswerProposer>(
 }
 
 /// Adds at most `left` answers that the model allows to `values`.
-fn add_allowed_answers<C: Callbacks, P: AnswerProposer>(
-    question: &AnswerQuestion<'_, C>,
+fn add_allowed_answers<C: Callbacks, O: Order, P: AnswerProposer>(
+    question: &AnswerQuestion<'_, C, O>,
     candidates: &P,
     mut values: Items<Value>,
     left: u32,
 ) -> Result<AllowedValues, AllocError>
     requires answered { let r = question.now.run.now in
-        IsAnsweredRun (C.model r.callbacks.now) r.shaped.now r.history.now }
+        IsAnsweredRun (C.model r.callbacks.now) (O.order r.order.now) r.shaped.now r.history.now }
     requires same { question.now.model.now ≡ C.model question.now.run.now.callbacks.now }
     requires allowed { let q = question.now in let r = q.run.now in
-        AreAllowedOnce (C.model r.callbacks.now) r.shaped.now.case r.history.now q.others.now q.number values }
+        AreAllowedOnce (C.model r.callbacks.now) (O.order r.order.now) r.shaped.now.case r.history.now q.others.now
+        q.number values }
     ensures allowed { let q = question.now in let r = q.run.now in IfOk result (λ found. AreAllowedOnce
-        (C.model r.callbacks.now) r.shaped.now.case r.history.now q.others.now q.number found.values) }
+        (C.model r.callbacks.now) (O.order r.order.now) r.shaped.now.case r.history.now q.others.now q.number
+        found.values) }
     ensures all { let q = question.now in let r = q.run.now in IfOk result (λ found. IsWhetherAll
-        (C.model r.callbacks.now) r.shaped.now.case r.history.now q.others.now q.number found.all
+        (C.model r.callbacks.now) (O.order r.order.now) r.shaped.now.case r.history.now q.others.now q.number found.all
         found.values) }
     ensures few { IfOk result (λ found. length found.values ≤ length values + left) }
 {
@@ -190,24 +195,26 @@ fn add_allowed_answers<C: Callbacks, P: AnswerProposer>(
 /// `at_most` answers are allowed, or `candidates` has no other allowed answer. If `candidates` has none for the first
 /// interleaving, for example because the postcondition faults there, it is tried on one in which the postcondition is
 /// false of the recorded answer. The function takes at most four searches for each value, and four more.
-pub fn find_allowed_values<C: Callbacks, P: AnswerProposer>(
-    run: &RecordedRun<'_, C>,
+pub fn find_allowed_values<C: Callbacks, O: Order, P: AnswerProposer>(
+    run: &RecordedRun<'_, C, O>,
     model: &Source,
     core: &[u32],
     number: u32,
     candidates: &P,
     at_most: u32,
 ) -> Result<AllowedValues, AllocError>
-    requires answered { let r = run.now in IsAnsweredRun (C.model r.callbacks.now) r.shaped.now r.history.now }
+    requires answered { let r = run.now in
+        IsAnsweredRun (C.model r.callbacks.now) (O.order r.order.now) r.shaped.now r.history.now }
     requires same { model.now ≡ C.model run.now.callbacks.now }
     ensures allowed { let r = run.now in IfOk result (λ found. AreAllowedOnce (C.model r.callbacks.now)
-        r.shaped.now.case r.history.now (reasons.without number core.now) number found.values) }
+        (O.order r.order.now) r.shaped.now.case r.history.now (reasons.without number core.now) number found.values) }
     ensures all { let r = run.now in IfOk result (λ found. IsWhetherAll (C.model r.callbacks.now)
-        r.shaped.now.case r.history.now (reasons.without number core.now) number found.all found.values) }
-    ensures exact { let r = run.now in let m = C.model r.callbacks.now in IfOk result (λ found. (found.all ≡ true)
-        → HasOneAnswer m r.shaped.now.case r.history.now (reasons.without number core.now) number
-        → HaveEachAllowed m r.shaped.now.case r.history.now (reasons.without number core.now) number
+        (O.order r.order.now) r.shaped.now.case r.history.now (reasons.without number core.now) number found.all
         found.values) }
+    ensures exact { let r = run.now in let m = C.model r.callbacks.now in IfOk result (λ found. (found.all ≡ true)
+        → HasOneAnswer m r.shaped.now.case r.history.now number
+        → HaveEachAllowed m (O.order r.order.now) r.shaped.now.case r.history.now (reasons.without number core.now)
+        number found.values) }
     ensures few { IfOk result (λ found. length found.values ≤ at_most) }
 {
     let alloc = run.alloc;
@@ -224,8 +231,8 @@ pub fn find_allowed_values<C: Callbacks, P: AnswerProposer>(
 
 /// Asks which answers of a command would be right in interleavings in which the answers of others are right.
 #[derive(Drop)]
-pub struct AnswerQuestion<'a, C> {
-    pub run: &'a RecordedRun<'a, C>,
+pub struct AnswerQuestion<'a, C, O> {
+    pub run: &'a RecordedRun<'a, C, O>,
     /// The model of the run.
     pub model: &'a Source,
     /// The numbers of the others.
@@ -234,19 +241,27 @@ pub struct AnswerQuestion<'a, C> {
     pub number: u32,
 }
 
-/// Returns an interleaving that is true to its end if `condition` is checked for each event. `None` if no interleaving
-/// is.
-fn interleaving_satisfying_condition<C: Callbacks, A: Condition>(
-    run: &RecordedRun<'_, C>,
+/// Returns an interleaving in order that is true to its end if `condition` is checked for each event. `None` if no
+/// interleaving in order is.
+fn interleaving_satisfying_condition<C: Callbacks, O: Order, A: Condition>(
+    run: &RecordedRun<'_, C, O>,
     condition: &A,
 ) -> Result<Option<Vec<usize>>, AllocError>
-    requires { let r = run.now in IsAnsweredRun (C.model r.callbacks.now) r.shaped.now r.history.now }
+    requires { let r = run.now in
+        IsAnsweredRun (C.model r.callbacks.now) (O.order r.order.now) r.shaped.now r.history.now }
     ensures { let r = run.now in let m = C.model r.callbacks.now in let asked = A.asked condition.now m in
         IfOk result (λ merge. MatchOption merge
-        ((v : List ℕ) → EndsAsking m asked r.shaped.now.case r.history.now AllTrue v → ⊥)
-        (λ word. EndsAsking m asked r.shaped.now.case r.history.now AllTrue word.items)) }
+        ((v : List ℕ) → IsTrueInOrder m (O.order r.order.now) r.shaped.now.case r.history.now asked v → ⊥)
+        (λ word. IsTrueInOrder m (O.order r.order.now) r.shaped.now.case r.history.now asked word.items)) }
 {
-    match verdict_with_condition(run.callbacks, condition, run.alloc, run.shaped, run.history)? {
+    match verdict_with_condition_in_order(
+        run.callbacks,
+        condition,
+        run.order,
+        run.alloc,
+        run.shaped,
+        run.history,
+    )? {
         Verdict::Explained(word) => Ok(Some(word)),
         Verdict::Faulted(_) => Ok(None),
         Verdict::Unexplained(_) => Ok(None),
@@ -256,15 +271,16 @@ fn interleaving_satisfying_condition<C: Callbacks, A: Condition>(
 
 /// Returns whether the model allows `answer`: whether it would be right in some interleaving in which the answers of
 /// the others are right.
-pub fn is_answer_allowed<C: Callbacks>(
-    question: &AnswerQuestion<'_, C>,
+pub fn is_answer_allowed<C: Callbacks, O: Order>(
+    question: &AnswerQuestion<'_, C, O>,
     answer: &Value,
 ) -> Result<bool, AllocError>
     requires answered { let r = question.now.run.now in
-        IsAnsweredRun (C.model r.callbacks.now) r.shaped.now r.history.now }
+        IsAnsweredRun (C.model r.callbacks.now) (O.order r.order.now) r.shaped.now r.history.now }
     requires same { question.now.model.now ≡ C.model question.now.run.now.callbacks.now }
     ensures { let q = question.now in let r = q.run.now in IfOk result (λ is. IsWhetherAllowed
-        (C.model r.callbacks.now) r.shaped.now.case r.history.now q.others.now q.number is answer.now) }
+        (C.model r.callbacks.now) (O.order r.order.now) r.shaped.now.case r.history.now q.others.now q.number is
+        answer.now) }
 {
     let asked = AnswerReplaced {
         model: question.model,
@@ -280,17 +296,18 @@ pub fn is_answer_allowed<C: Callbacks>(
 
 /// Returns an interleaving in which the answers of the others are right and none of `answers` would be right for the
 /// command, if there is one.
-pub fn interleaving_where_answers_are_wrong<C: Callbacks>(
-    question: &AnswerQuestion<'_, C>,
+pub fn interleaving_where_answers_are_wrong<C: Callbacks, O: Order>(
+    question: &AnswerQuestion<'_, C, O>,
     answers: &[Value],
 ) -> Result<Option<Vec<usize>>, AllocError>
     requires answered { let r = question.now.run.now in
-        IsAnsweredRun (C.model r.callbacks.now) r.shaped.now r.history.now }
+        IsAnsweredRun (C.model r.callbacks.now) (O.order r.order.now) r.shaped.now r.history.now }
     requires same { question.now.model.now ≡ C.model question.now.run.now.callbacks.now }
     ensures { let q = question.now in let r = q.run.now in let m = C.model r.callbacks.now in
         IfOk result (λ merge. MatchOption merge
-        (AreAll m r.shaped.now.case r.history.now q.others.now q.number answers.now)
-        (λ word. IsBeyond m r.shaped.now.case r.history.now q.others.now q.number answers.now word.items)) }
+        (AreAll m (O.order r.order.now) r.shaped.now.case r.history.now q.others.now q.number answers.now)
+        (λ word. IsBeyond m (O.order r.order.now) r.shaped.now.case r.history.now q.others.now q.number answers.now
+        word.items)) }
 {
     let asked = AnswersExcluded {
         model: question.model,

@@ -2,18 +2,14 @@
 //! lists.
 ghost use Rattle.std.specs.Prelude.{◌≡◌, ◌++◌, ◌∷◌, [], true, IfOk, MatchOption, ◌+◌, ◌≤◌, length};
 ghost use Rattle.pst_reasons.specs.Answered.{IsAnsweredRun};
-ghost use Rattle.pst_grid.specs.Orders.{NeverBlocks};
-ghost use Rattle.pst_judge.specs.InOrder.{IsRunInOrder};
-ghost use Rattle.pst_judge.specs.Replay.{branch_lengths};
-ghost use Rattle.pst_reasons.specs.InOrder.{IsCoreInOrder, IsCoreSoFar, IsImpossibleAmong, IsLeastTrueAmong, IsUnexplainedInOrder};
-ghost use Rattle.pst_reasons.specs.Reasons.{AreRising, IsCore, IsUnexplained, number_of_commands, numbers_to, without};
+ghost use Rattle.pst_reasons.specs.Reasons.{AreRising, IsCore, IsCoreSoFar, IsImpossible, IsLeastTrue, IsUnexplained, number_of_commands, numbers_to, without};
 ghost use Rattle.pst_case.specs.Shape.{joined};
 
 use crate::conditions::SomePostconditions;
 use crate::recorded::RecordedRun;
 use pst_case::{Command, Shaped};
 use pst_eval::Callbacks;
-use pst_grid::{AnyOrder, Order};
+use pst_grid::Order;
 use pst_judge::{Verdict, verdict_with_condition_in_order};
 use pst_value::Items;
 use std::alloc::{AllocError, Global};
@@ -21,23 +17,22 @@ use std::alloc::{AllocError, Global};
 /// Returns the lexicographically first interleaving in order that is true to its end if only the postconditions of the
 /// commands `first` and `rest` are checked. `None` if no interleaving in order is.
 fn interleaving_where_commands_are_right<C: Callbacks, O: Order>(
-    run: &RecordedRun<'_, C>,
-    order: &O,
+    run: &RecordedRun<'_, C, O>,
     first: &[u32],
     rest: &[u32],
 ) -> Result<Option<Vec<usize>>, AllocError>
-    requires answered { let r = run.now in IsAnsweredRun (C.model r.callbacks.now) r.shaped.now r.history.now }
-    requires progress { NeverBlocks (O.order order.now) (branch_lengths run.now.shaped.now.case) }
+    requires answered { let r = run.now in
+        IsAnsweredRun (C.model r.callbacks.now) (O.order r.order.now) r.shaped.now r.history.now }
     ensures { let r = run.now in let m = C.model r.callbacks.now in let numbers = first.now ++ rest.now in
-        let c = r.shaped.now.case in let W = IsRunInOrder (O.order order.now) c in
-        IfOk result (λ merge. MatchOption merge (IsImpossibleAmong m c r.history.now W numbers)
-        (λ word. IsLeastTrueAmong m c r.history.now W numbers word.items)) }
+        IfOk result (λ merge. MatchOption merge
+        (IsImpossible m (O.order r.order.now) r.shaped.now.case r.history.now numbers)
+        (λ word. IsLeastTrue m (O.order r.order.now) r.shaped.now.case r.history.now numbers word.items)) }
 {
     let asked = SomePostconditions { first, rest };
     match verdict_with_condition_in_order(
         run.callbacks,
         &asked,
-        order,
+        run.order,
         run.alloc,
         run.shaped,
         run.history,
@@ -51,20 +46,19 @@ fn interleaving_where_commands_are_right<C: Callbacks, O: Order>(
 
 /// Leaves out `number` if the others stay impossible without it, or else inserts it before `core`.
 fn leave_command_out_of_core_if_possible<C: Callbacks, O: Order>(
-    run: &RecordedRun<'_, C>,
-    order: &O,
+    run: &RecordedRun<'_, C, O>,
     first: &[u32],
     number: u32,
     mut core: Vec<u32>,
 ) -> Result<Vec<u32>, AllocError>
-    requires answered { let r = run.now in IsAnsweredRun (C.model r.callbacks.now) r.shaped.now r.history.now }
-    requires progress { NeverBlocks (O.order order.now) (branch_lengths run.now.shaped.now.case) }
-    requires core { let r = run.now in IsCoreSoFar (C.model r.callbacks.now) r.shaped.now.case r.history.now
-        (IsRunInOrder (O.order order.now) r.shaped.now.case) (first.now ++ number ∷ []) core.items }
-    ensures { let r = run.now in IfOk result (λ core. IsCoreSoFar (C.model r.callbacks.now) r.shaped.now.case
-        r.history.now (IsRunInOrder (O.order order.now) r.shaped.now.case) first.now core.items) }
+    requires answered { let r = run.now in
+        IsAnsweredRun (C.model r.callbacks.now) (O.order r.order.now) r.shaped.now r.history.now }
+    requires core { let r = run.now in IsCoreSoFar (C.model r.callbacks.now) (O.order r.order.now) r.shaped.now.case
+        r.history.now (first.now ++ number ∷ []) core.items }
+    ensures { let r = run.now in IfOk result (λ core. IsCoreSoFar (C.model r.callbacks.now) (O.order r.order.now)
+        r.shaped.now.case r.history.now first.now core.items) }
 {
-    let merge = interleaving_where_commands_are_right(run, order, first, core.as_slice())?;
+    let merge = interleaving_where_commands_are_right(run, first, core.as_slice())?;
     let Some(_word) = merge else {
         return Ok(core);
     };
@@ -74,64 +68,49 @@ fn leave_command_out_of_core_if_possible<C: Callbacks, O: Order>(
 
 /// Leaves out each number of `first`, from the greatest down, if the others stay impossible without it.
 fn leave_commands_out_of_core_if_possible<C: Callbacks, O: Order>(
-    run: &RecordedRun<'_, C>,
-    order: &O,
+    run: &RecordedRun<'_, C, O>,
     first: &[u32],
     core: Vec<u32>,
 ) -> Result<Vec<u32>, AllocError>
-    requires answered { let r = run.now in IsAnsweredRun (C.model r.callbacks.now) r.shaped.now r.history.now }
-    requires progress { NeverBlocks (O.order order.now) (branch_lengths run.now.shaped.now.case) }
-    requires core { let r = run.now in IsCoreSoFar (C.model r.callbacks.now) r.shaped.now.case r.history.now
-        (IsRunInOrder (O.order order.now) r.shaped.now.case) first.now core.items }
-    ensures core { let r = run.now in IfOk result (λ core. IsCoreInOrder (C.model r.callbacks.now) (O.order order.now)
+    requires answered { let r = run.now in
+        IsAnsweredRun (C.model r.callbacks.now) (O.order r.order.now) r.shaped.now r.history.now }
+    requires core { let r = run.now in IsCoreSoFar (C.model r.callbacks.now) (O.order r.order.now) r.shaped.now.case
+        r.history.now first.now core.items }
+    ensures core { let r = run.now in IfOk result (λ core. IsCore (C.model r.callbacks.now) (O.order r.order.now)
         r.shaped.now.case r.history.now core.items) }
     ensures rising { IfOk result (λ core. AreRising 0 (number_of_commands run.now.shaped.now.case) core.items) }
 {
     let Some((number, first)) = split_last_number(first) else {
         return Ok(core);
     };
-    let core = leave_command_out_of_core_if_possible(run, order, first, *number, core)?;
-    leave_commands_out_of_core_if_possible(run, order, first, core)
+    let core = leave_command_out_of_core_if_possible(run, first, *number, core)?;
+    leave_commands_out_of_core_if_possible(run, first, core)
 }
 
-/// Returns a core of a history that no interleaving explains: the numbers, in rising order, of commands whose
-/// postconditions are not all true in any interleaving, although without any one of these commands they are in some.
+/// Returns a core of a history that no interleaving in order explains: the numbers, in rising order, of commands whose
+/// postconditions are not all true in any interleaving in order, although without any one of these commands they are in
+/// some.
 ///
-/// The function goes through the commands from the last to the first, and leaves out each without which the others are
+/// The order must never block: wherever commands of the branches are left, some branch that has one is open. The
+/// function goes through the commands from the last to the first, and leaves out each without which the others are
 /// still impossible. So it prefers a core of commands with small numbers. Other commands may have answered anything.
-/// The core is empty if every interleaving faults in `init` or `next`, whatever was answered. The function takes one
-/// search for each command.
-pub fn minimal_core<C: Callbacks>(run: &RecordedRun<'_, C>) -> Result<Vec<u32>, AllocError>
-    requires answered { let r = run.now in IsAnsweredRun (C.model r.callbacks.now) r.shaped.now r.history.now }
-    requires unexplained { let r = run.now in IsUnexplained (C.model r.callbacks.now) r.shaped.now.case
-        r.history.now }
-    ensures core { let r = run.now in IfOk result
-        (λ core. IsCore (C.model r.callbacks.now) r.shaped.now.case r.history.now core.items) }
-    ensures rising { IfOk result (λ core. AreRising 0 (number_of_commands run.now.shaped.now.case) core.items) }
-{
-    minimal_core_in_order(run, &AnyOrder)
-}
-
-/// Returns a core of a history that no interleaving in `order` explains.
-///
-/// It is [`minimal_core`] where only the interleavings in the order count. The order must never block: wherever commands
-/// of the branches are left, some branch that has one is open. `AllocError` means that an allocation failed.
-pub fn minimal_core_in_order<C: Callbacks, O: Order>(
-    run: &RecordedRun<'_, C>,
-    order: &O,
+/// The core is empty if every interleaving in order faults in `init` or `next`, whatever was answered. The function
+/// takes one search for each command.
+pub fn minimal_core<C: Callbacks, O: Order>(
+    run: &RecordedRun<'_, C, O>,
 ) -> Result<Vec<u32>, AllocError>
-    requires answered { let r = run.now in IsAnsweredRun (C.model r.callbacks.now) r.shaped.now r.history.now }
-    requires progress { NeverBlocks (O.order order.now) (branch_lengths run.now.shaped.now.case) }
-    requires unexplained { let r = run.now in IsUnexplainedInOrder (C.model r.callbacks.now) (O.order order.now)
+    requires answered { let r = run.now in
+        IsAnsweredRun (C.model r.callbacks.now) (O.order r.order.now) r.shaped.now r.history.now }
+    requires unexplained { let r = run.now in IsUnexplained (C.model r.callbacks.now) (O.order r.order.now)
         r.shaped.now.case r.history.now }
-    ensures core { let r = run.now in IfOk result (λ core. IsCoreInOrder (C.model r.callbacks.now) (O.order order.now)
+    ensures core { let r = run.now in IfOk result (λ core. IsCore (C.model r.callbacks.now) (O.order r.order.now)
         r.shaped.now.case r.history.now core.items) }
     ensures rising { IfOk result (λ core. AreRising 0 (number_of_commands run.now.shaped.now.case) core.items) }
 {
     let alloc = run.alloc;
     let numbers = command_numbers_up_to(alloc, count_case_commands(run.shaped))?;
     let core = empty_command_number_list(alloc);
-    leave_commands_out_of_core_if_possible(run, order, numbers.as_slice(), core)
+    leave_commands_out_of_core_if_possible(run, numbers.as_slice(), core)
 }
 
 /// Returns the numbers from 1 to `last`.

@@ -1,5 +1,6 @@
 //! Why no interleaving explains the replies of a history: a core of postconditions that cannot all be true, and the
-//! answers that the model allows in place of them; and the states along an interleaving.
+//! answers that the model allows in place of them; and the states along an interleaving. Only the interleavings in an
+//! order count.
 //!
 //! `AllocError` means that an allocation failed.
 #![tactic(auto)]
@@ -17,9 +18,8 @@ pub use allowing::{
     interleaving_where_answers_are_wrong, is_answer_allowed,
 };
 pub use conditions::SomePostconditions;
-pub use cores::{
-    append_numbers_without, count_branch_commands, minimal_core, minimal_core_in_order,
-};
-pub use laws::equality_has_one_answer;
+pub use cores::{append_numbers_without, count_branch_commands, minimal_core};
+pub use laws::{any_order_has_each_merge, equality_has_one_answer};
+pub use pst_grid::{AnyOrder, Order};
 pub use recorded::RecordedRun;
 pub use state_list::states;

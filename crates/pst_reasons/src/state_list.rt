@@ -12,7 +12,7 @@ ghost use Rattle.pst_value.specs.declared.value.Value.{Value};
 use crate::cores::count_branch_commands;
 use crate::recorded::RecordedRun;
 use pst_eval::Callbacks;
-use pst_grid::StepOutcome;
+use pst_grid::{Order, StepOutcome};
 use pst_judge::{
     Branches, Condition, Event, branch_and_suffix_events, events_of_prefix, replay_event,
 };
@@ -152,12 +152,13 @@ fn append_states_after_prefix<C: Callbacks, A: Condition>(
 /// is not true by `condition`. The events are those of the prefix, those of the interleaving `word` of the branches,
 /// and, if `word` has a letter for each command of the branches, those of the suffix. The list is empty if `init`
 /// faults.
-pub fn states<C: Callbacks, A: Condition>(
-    run: &RecordedRun<'_, C>,
+pub fn states<C: Callbacks, O: Order, A: Condition>(
+    run: &RecordedRun<'_, C, O>,
     condition: &A,
     word: &[usize],
 ) -> Result<Items<Value>, AllocError>
-    requires { let r = run.now in IsAnsweredRun (C.model r.callbacks.now) r.shaped.now r.history.now }
+    requires { let r = run.now in
+        IsAnsweredRun (C.model r.callbacks.now) (O.order r.order.now) r.shaped.now r.history.now }
     ensures { let r = run.now in let m = C.model r.callbacks.now in IfOk result
         (λ states. states ≡ states_of m (A.asked condition.now m) r.shaped.now.case r.history.now word.now) }
 {

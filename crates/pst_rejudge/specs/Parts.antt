@@ -3,7 +3,8 @@ use Rattle.std.specs.Prelude.{◌≡◌, ℕ, Bool, true, false, List, [], ◌�
 use Rattle.std.specs.List.{AllZip, flat_map}
 use Rattle.std.specs.declared.alloc.Global.{Global}
 use Rattle.pst_case.specs.declared.history.Run.{Run}
-use Rattle.pst_judge.specs.Judgement.{IsJudgement}
+use Rattle.pst_judge.specs.Judgement.{IsJudgementBy}
+use Rattle.pst_judge.specs.declared.by_order.CallOrder.{CallOrder}
 use Rattle.pst_judge.specs.declared.judgement.Judged.{Judged}
 use Rattle.pst_model.specs.declared.model.Source.{Source}
 use Rattle.pst_runs.specs.Items.{runs_of}
@@ -31,9 +32,9 @@ abbrev pub joined : List (Vec Run Global) → List Run
 joined = flat_map (λ runs. runs.items)
 
 -- the bytes spell these runs, and these are the judgements on them, in the same order
-pub record IsJudged (m : Source) (bytes : List ℕ) (all : List Run) (judgements : List Judged) : Type 0 where
+pub record IsJudged (order : CallOrder) (m : Source) (bytes : List ℕ) (all : List Run) (judgements : List Judged) : Type 0 where
   pub runs : SpellsRuns m bytes all
-  pub judged : AllZip (IsJudgement m) all judgements
+  pub judged : AllZip (IsJudgementBy order m) all judgements
 
 -- all of the runs are kept, or none
 abbrev pub AreKept : Bool → List Run → List Run → Type 0
@@ -41,8 +42,9 @@ AreKept true runs kept = kept ≡ runs
 AreKept false runs kept = kept ≡ []
 
 -- the bytes spell runs, these are the judgements on them, in the same order, and so much of the runs is kept
-pub record IsJudgedPart (m : Source) (keeps : Bool) (bytes : List ℕ) (kept : List Run) (judgements : List Judged)
+pub record IsJudgedPart
+    (order : CallOrder) (m : Source) (keeps : Bool) (bytes : List ℕ) (kept : List Run) (judgements : List Judged)
     : Type 0 where
   pub runs : List Run
-  pub judged : IsJudged m bytes runs judgements
+  pub judged : IsJudged order m bytes runs judgements
   pub are_kept : AreKept keeps runs kept

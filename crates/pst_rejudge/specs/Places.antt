@@ -7,21 +7,22 @@ use Rattle.pst_rejudge.specs.Parts.{IsJudgedPart}
 use Rattle.pst_rejudge.specs.declared.parts.JudgedRuns.{JudgedRuns}
 use Rattle.pst_rejudge.specs.declared.parts.JudgedPart.{JudgedPart}
 use Rattle.pst_judge.specs.declared.judgement.Judged.{Judged}
+use Rattle.pst_judge.specs.declared.by_order.CallOrder.{CallOrder}
 use Rattle.pst_model.specs.declared.model.Source.{Source}
 
 -- the bytes of a part spell runs that are judged
-abbrev pub HoldsPart : Source → Bool → List ℕ → JudgedRuns → Type 0
-HoldsPart m keeps bytes content = IsJudgedPart m keeps bytes content.runs.items content.judged.items
+abbrev pub HoldsPart : CallOrder → Source → Bool → List ℕ → JudgedRuns → Type 0
+HoldsPart order m keeps bytes content = IsJudgedPart order m keeps bytes content.runs.items content.judged.items
 
 -- what was taken is what the part at its place spells
-pub record StandsIn (m : Source) (keeps : Bool) (parts : List (Bor (List ℕ))) (taken : JudgedPart) : Type 0 where
+pub record StandsIn (order : CallOrder) (m : Source) (keeps : Bool) (parts : List (Bor (List ℕ))) (taken : JudgedPart) : Type 0 where
   pub part : Bor (List ℕ)
   pub place : slice_get parts taken.place ≡ Some part
-  pub content : HoldsPart m keeps part.now taken.content
+  pub content : HoldsPart order m keeps part.now taken.content
 
 -- there is a place for each part, and what stands in it is what the part spells
-abbrev pub AreFilled : Source → Bool → List (Bor (List ℕ)) → List (Option JudgedRuns) → Type 0
-AreFilled m keeps parts places = AllZip (λ part place. IfSome place (HoldsPart m keeps part.now)) parts places
+abbrev pub AreFilled : CallOrder → Source → Bool → List (Bor (List ℕ)) → List (Option JudgedRuns) → Type 0
+AreFilled order m keeps parts places = AllZip (λ part place. IfSome place (HoldsPart order m keeps part.now)) parts places
 
 abbrev pub runs_in : Option JudgedRuns → List Run
 runs_in None = []

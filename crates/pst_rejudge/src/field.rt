@@ -55,6 +55,7 @@ pub enum FieldName {
     Explanation,
     /// The seed of a campaign.
     Seed,
+    Order,
     /// How many trials a campaign has.
     Trials,
     /// The maximum number of commands in a case's branches.
@@ -132,6 +133,7 @@ impl FieldName {
             FieldName::Notes => "notes",
             FieldName::Explanation => "explanation",
             FieldName::Seed => "seed",
+            FieldName::Order => "order",
             FieldName::Trials => "trials",
             FieldName::Commands => "commands",
             FieldName::Branches => "branches",

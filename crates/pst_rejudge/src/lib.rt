@@ -5,7 +5,7 @@
 
 ghost use Rattle.std.specs.Prelude.{◌≡◌, All, IfOk};
 ghost use Rattle.std.specs.List.{AllZip};
-ghost use Rattle.pst_judge.specs.Judgement.{IsJudgement};
+ghost use Rattle.pst_judge.specs.Judgement.{IsJudgement, IsJudgementBy};
 ghost use Rattle.pst_rejudge.specs.Judging.{MayBeJudged};
 
 mod field;
@@ -24,7 +24,7 @@ pub use laws::stream_lines_are_judged_as_items;
 pub use parts::{JudgedParts, read_and_judge_in_parts, split_before_second_bracket_line};
 use pst_case::Run;
 use pst_eval::Callbacks;
-use pst_judge::{Judged, judge_one};
+use pst_judge::{CallOrder, Judge, Judged};
 use rayon::prelude::*;
 pub use reading::{ItemResult, read_and_judge_each_tree, read_and_judge_tree};
 pub use sharing::prove_models_are_sync;
@@ -38,39 +38,39 @@ pub use verdict_fields::{
 
 /// Judges an item, and counts it in `steps`.
 fn judge_run_with_progress<C: Callbacks>(
-    callbacks: &C,
+    judge: &Judge<'_, C>,
     alloc: Global,
     run: &Run,
     steps: &ProgressCounter,
 ) -> Result<Judged, AllocError>
-    requires { MayBeJudged (C.model callbacks.now) run.now }
-    ensures { IfOk result (IsJudgement (C.model callbacks.now) run.now) }
+    requires { MayBeJudged (C.model judge.now.callbacks.now) run.now }
+    ensures { IfOk result (IsJudgementBy judge.now.order (C.model judge.now.callbacks.now) run.now) }
 {
-    let judged = judge_one(callbacks, alloc, run)?;
+    let judged = judge.judge_one(alloc, run)?;
     steps.add(1);
     Ok(judged)
 }
 
-/// Returns the judgement of each item, in the order of the items: what `judge_one` gives of it. Several threads
-/// judge the items at once, and count them in `steps`.
+/// Returns the judgement of each item, in the order of the items: what `judge` gives of it. Several threads judge
+/// the items at once, and count them in `steps`.
 pub fn rejudge_with_progress<C: Callbacks + Sync, R: Threads + Sync>(
     rt: &R,
-    callbacks: &C,
+    judge: &Judge<'_, C>,
     alloc: Global,
     runs: &[Run],
     steps: &ProgressCounter,
 ) -> Result<Vec<Judged>, AllocError>
-    requires { All (MayBeJudged (C.model callbacks.now)) runs.now }
-    ensures { IfOk result (λ all. AllZip (IsJudgement (C.model callbacks.now)) runs.now all.items) }
+    requires { All (MayBeJudged (C.model judge.now.callbacks.now)) runs.now }
+    ensures { IfOk result (λ all. AllZip (IsJudgementBy judge.now.order (C.model judge.now.callbacks.now)) runs.now all.items) }
 {
     prove_runs_are_sync();
     runs.par_iter()
         .with_min_len(1)
         .map(
             |run: &Run| -> Result<Judged, AllocError>
-                requires { MayBeJudged (C.model callbacks.now) run.now }
-                ensures { IfOk result (IsJudgement (C.model callbacks.entry.now) run.now) }
-            { judge_run_with_progress(callbacks, alloc, run, steps) },
+                requires { MayBeJudged (C.model judge.now.callbacks.now) run.now }
+                ensures { IfOk result (IsJudgementBy judge.entry.now.order (C.model judge.entry.now.callbacks.now) run.now) }
+            { judge_run_with_progress(judge, alloc, run, steps) },
         )
         .collect::<Result<Vec<Judged>, AllocError>>(rt, alloc)?
 }
@@ -86,5 +86,12 @@ pub fn rejudge<C: Callbacks + Sync, R: Threads + Sync>(
     requires { All (MayBeJudged (C.model callbacks.now)) runs.now }
     ensures { IfOk result (λ all. AllZip (IsJudgement (C.model callbacks.now)) runs.now all.items) }
 {
-    rejudge_with_progress(rt, callbacks, alloc, runs, &ProgressCounter::new())
+    let order = CallOrder::Any;
+    rejudge_with_progress(
+        rt,
+        &Judge { callbacks, order },
+        alloc,
+        runs,
+        &ProgressCounter::new(),
+    )
 }

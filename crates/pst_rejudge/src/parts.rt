@@ -7,9 +7,10 @@ ghost use Rattle.std.specs.Prelude.{◌≡◌, All, IfOk, IfSome, ℕ, Bool, Lis
 ghost use Rattle.pst_rejudge.specs.Parts.{IsJudgedPart, joined, EndsLine, AreParts};
 ghost use Rattle.pst_rejudge.specs.Places.{StandsIn, HoldsPart, AreFilled, runs_in, judged_in};
 ghost use Rattle.std.specs.List.{AllZip, flat_map};
-ghost use Rattle.pst_judge.specs.Judgement.{IsJudgement};
+ghost use Rattle.pst_judge.specs.Judgement.{IsJudgementBy};
 ghost use Rattle.pst_rejudge.specs.Judging.{MayBeJudged};
 ghost use Rattle.std.specs.Option.{IsSome};
+ghost use Rattle.pst_judge.specs.declared.by_order.CallOrder.{CallOrder};
 ghost use Rattle.pst_model.specs.declared.model.Source.{Source};
 ghost use Rattle.std.specs.Borrow.{Bor};
 
@@ -18,7 +19,7 @@ use crate::sharing::{prove_judged_parts_are_send, prove_models_are_sync};
 use crate::steps::ProgressCounter;
 use pst_case::Run;
 use pst_eval::Callbacks;
-use pst_judge::{Judged, judge_one};
+use pst_judge::{Judge, Judged};
 use pst_model::Typed;
 use rayon::prelude::*;
 use std::alloc::{AllocError, Global};
@@ -54,19 +55,19 @@ const OFFERS: usize = 64;
 /// `None`: some part is not read by itself, which implies nothing for the whole input. `AllocError`: an
 /// allocation failed, even while reading or judging parts.
 ///
-/// `typed` is the model of the callbacks.
+/// `typed` is the model of the judge's callbacks.
 pub fn read_and_judge_in_parts<C: Callbacks + Sync, R: Threads + Sync>(
     rt: &R,
-    callbacks: &C,
+    judge: &Judge<'_, C>,
     alloc: Global,
     typed: &Typed,
     input: &[u8],
     keeps: bool,
     steps: &ProgressCounter,
 ) -> Result<Option<JudgedParts>, AllocError>
-    requires { typed.now ≡ C.model callbacks.now }
+    requires { typed.now ≡ C.model judge.now.callbacks.now }
     ensures { IfOk result (λ read. IfSome read
-        (λ parts. IsJudgedPart typed.now keeps input.now (joined parts.runs.items) parts.judged.items)) }
+        (λ parts. IsJudgedPart judge.now.order typed.now keeps input.now (joined parts.runs.items) parts.judged.items)) }
 {
     prove_models_are_sync();
     prove_judged_parts_are_send();
@@ -78,11 +79,11 @@ pub fn read_and_judge_in_parts<C: Callbacks + Sync, R: Threads + Sync>(
         .with_min_len(1)
         .map(
             |_: &u8| -> Result<Vec<JudgedPart>, PartFault>
-                requires { typed.now ≡ C.model callbacks.now }
-                ensures { IfOk result (λ taken. All (StandsIn (C.model callbacks.entry.now) keeps parts.entry.items) taken.items) }
+                requires { typed.now ≡ C.model judge.now.callbacks.now }
+                ensures { IfOk result (λ taken. All (StandsIn judge.entry.now.order (C.model judge.entry.now.callbacks.now) keeps parts.entry.items) taken.items) }
             {
                 take_and_judge_remaining_parts(
-                    callbacks,
+                    judge,
                     alloc,
                     typed,
                     parts.as_slice(),
@@ -114,17 +115,17 @@ pub(crate) struct JudgedPart {
 
 /// The judgement on each run. `steps` counts the runs.
 fn judge_runs_of_part<C: Callbacks>(
-    callbacks: &C,
+    judge: &Judge<'_, C>,
     alloc: Global,
     runs: &[Run],
     steps: &ProgressCounter,
 ) -> Result<Vec<Judged>, AllocError>
-    requires { All (MayBeJudged (C.model callbacks.now)) runs.now }
-    ensures { IfOk result (λ all. AllZip (IsJudgement (C.model callbacks.now)) runs.now all.items) }
+    requires { All (MayBeJudged (C.model judge.now.callbacks.now)) runs.now }
+    ensures { IfOk result (λ all. AllZip (IsJudgementBy judge.now.order (C.model judge.now.callbacks.now)) runs.now all.items) }
 {
     let mut judged = Vec::with_capacity(alloc, runs.len())?;
     for run in runs {
-        judged.push(judge_one(callbacks, alloc, run)?)?;
+        judged.push(judge.judge_one(alloc, run)?)?;
         steps.add(1);
     }
     Ok(judged)
@@ -132,18 +133,18 @@ fn judge_runs_of_part<C: Callbacks>(
 
 /// The judgements on the runs that the bytes of a part spell, with the runs if `keeps` is true.
 fn read_and_judge_part<C: Callbacks>(
-    callbacks: &C,
+    judge: &Judge<'_, C>,
     alloc: Global,
     typed: &Typed,
     bytes: &[u8],
     keeps: bool,
     steps: &ProgressCounter,
 ) -> Result<JudgedRuns, PartFault>
-    requires { typed.now ≡ C.model callbacks.now }
-    ensures { IfOk result (HoldsPart (C.model callbacks.now) keeps bytes.now) }
+    requires { typed.now ≡ C.model judge.now.callbacks.now }
+    ensures { IfOk result (HoldsPart judge.now.order (C.model judge.now.callbacks.now) keeps bytes.now) }
 {
     let runs = read_runs_of_part(alloc, typed, bytes)?;
-    let judged = judge_runs_of_part(callbacks, alloc, runs.as_slice(), steps)?;
+    let judged = judge_runs_of_part(judge, alloc, runs.as_slice(), steps)?;
     Ok(JudgedRuns {
         runs: if keeps { runs } else { Vec::new(alloc) },
         judged,
@@ -152,7 +153,7 @@ fn read_and_judge_part<C: Callbacks>(
 
 /// Reads and judges one part after another until none is left. No other thread takes these parts.
 fn take_and_judge_remaining_parts<C: Callbacks>(
-    callbacks: &C,
+    judge: &Judge<'_, C>,
     alloc: Global,
     typed: &Typed,
     parts: &[&[u8]],
@@ -160,8 +161,8 @@ fn take_and_judge_remaining_parts<C: Callbacks>(
     next: &AtomicUsize,
     steps: &ProgressCounter,
 ) -> Result<Vec<JudgedPart>, PartFault>
-    requires { typed.now ≡ C.model callbacks.now }
-    ensures { IfOk result (λ taken. All (StandsIn (C.model callbacks.now) keeps parts.now) taken.items) }
+    requires { typed.now ≡ C.model judge.now.callbacks.now }
+    ensures { IfOk result (λ taken. All (StandsIn judge.now.order (C.model judge.now.callbacks.now) keeps parts.now) taken.items) }
 {
     let mut taken = Vec::new(alloc);
     for _ in 0..parts.len() {
@@ -169,7 +170,7 @@ fn take_and_judge_remaining_parts<C: Callbacks>(
         let Some(bytes) = parts.get(place) else {
             return Ok(taken);
         };
-        let content = read_and_judge_part(callbacks, alloc, typed, bytes, keeps, steps)?;
+        let content = read_and_judge_part(judge, alloc, typed, bytes, keeps, steps)?;
         if taken.push(JudgedPart { place, content }).is_err() {
             return Err(PartFault::NoMemory);
         }
@@ -182,7 +183,7 @@ fn empty_places_for_parts(
     alloc: Global,
     parts: &[&[u8]],
 ) -> Result<Vec<Option<JudgedRuns>>, AllocError>
-    ensures { IfOk result (λ places. (m : Source) (keeps : Bool) → AreFilled m keeps parts.now places.items) }
+    ensures { IfOk result (λ places. (order : CallOrder) (m : Source) (keeps : Bool) → AreFilled order m keeps parts.now places.items) }
 {
     let mut places = Vec::with_capacity(alloc, parts.len())?;
     for _part in parts {
@@ -196,8 +197,9 @@ fn put_judged_parts_into_places(
     mut places: Vec<Option<JudgedRuns>>,
     taken: Vec<JudgedPart>,
 ) -> Vec<Option<JudgedRuns>>
-    ensures { (m : Source) (keeps : Bool) (parts : List (Bor (List ℕ))) → AreFilled m keeps parts places.items
-        → All (StandsIn m keeps parts) taken.items → AreFilled m keeps parts result.items }
+    ensures { (order : CallOrder) (m : Source) (keeps : Bool) (parts : List (Bor (List ℕ)))
+        → AreFilled order m keeps parts places.items → All (StandsIn order m keeps parts) taken.items
+        → AreFilled order m keeps parts result.items }
 {
     for part in taken {
         let JudgedPart { place, content } = part;
@@ -214,8 +216,9 @@ fn put_judged_parts_in_order(
     parts: &[&[u8]],
     lists: Vec<Vec<JudgedPart>>,
 ) -> Result<Vec<Option<JudgedRuns>>, AllocError>
-    ensures { IfOk result (λ places. (m : Source) (keeps : Bool)
-        → All (λ taken. All (StandsIn m keeps parts.now) taken.items) lists.items → AreFilled m keeps parts.now places.items) }
+    ensures { IfOk result (λ places. (order : CallOrder) (m : Source) (keeps : Bool)
+        → All (λ taken. All (StandsIn order m keeps parts.now) taken.items) lists.items
+        → AreFilled order m keeps parts.now places.items) }
 {
     let mut places = empty_places_for_parts(alloc, parts)?;
     for taken in lists {

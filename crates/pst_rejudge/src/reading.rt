@@ -12,7 +12,7 @@ use crate::sharing::prove_models_are_sync;
 use crate::steps::ProgressCounter;
 use pst_case::{CaseFaultKind, Run};
 use pst_eval::Callbacks;
-use pst_judge::{Judged, judge_one};
+use pst_judge::{Judge, Judged};
 use pst_model::Typed;
 use pst_runs::{RunFault, RunFaultKind, read_runs};
 use pst_sexpr::{FaultKind, SexprFault, Tree, read};
@@ -37,32 +37,32 @@ pub enum ItemResult {
 
 /// Reads and judges the item that a tree spells.
 pub fn read_and_judge_tree<C: Callbacks>(
-    callbacks: &C,
+    judge: &Judge<'_, C>,
     alloc: Global,
     typed: &Typed,
     tree: &Tree,
 ) -> Result<ItemResult, AllocError>
-    requires { typed.now ≡ C.model callbacks.now }
-    ensures { IfOk result (IsAnswer (C.model callbacks.now) tree.now) }
+    requires { typed.now ≡ C.model judge.now.callbacks.now }
+    ensures { IfOk result (IsAnswer judge.now.order (C.model judge.now.callbacks.now) tree.now) }
 {
     match read_run_of_tree(alloc, typed, tree)? {
-        Ok(run) => Ok(ItemResult::Judged(judge_one(callbacks, alloc, &run)?)),
+        Ok(run) => Ok(ItemResult::Judged(judge.judge_one(alloc, &run)?)),
         Err(RunFault { kind, command, .. }) => Ok(ItemResult::Refused { kind, command }),
     }
 }
 
 /// Reads and judges the item that a tree spells, and counts it in `steps`.
 fn read_and_judge_tree_with_progress<C: Callbacks>(
-    callbacks: &C,
+    judge: &Judge<'_, C>,
     alloc: Global,
     typed: &Typed,
     tree: &Tree,
     steps: &ProgressCounter,
 ) -> Result<ItemResult, AllocError>
-    requires { typed.now ≡ C.model callbacks.now }
-    ensures { IfOk result (IsAnswer (C.model callbacks.now) tree.now) }
+    requires { typed.now ≡ C.model judge.now.callbacks.now }
+    ensures { IfOk result (IsAnswer judge.now.order (C.model judge.now.callbacks.now) tree.now) }
 {
-    let answer = read_and_judge_tree(callbacks, alloc, typed, tree)?;
+    let answer = read_and_judge_tree(judge, alloc, typed, tree)?;
     steps.add(1);
     Ok(answer)
 }
@@ -70,17 +70,17 @@ fn read_and_judge_tree_with_progress<C: Callbacks>(
 /// Reads and judges each of the items that trees spell, in their order: returns the judgement on it, or why it
 /// is refused. Several threads read and judge the items at once, and count them in `steps`.
 ///
-/// `typed` is the model of the callbacks.
+/// `typed` is the model of the judge's callbacks.
 pub fn read_and_judge_each_tree<C: Callbacks + Sync, R: Threads + Sync>(
     rt: &R,
-    callbacks: &C,
+    judge: &Judge<'_, C>,
     alloc: Global,
     typed: &Typed,
     trees: &[Tree],
     steps: &ProgressCounter,
 ) -> Result<Vec<ItemResult>, AllocError>
-    requires { typed.now ≡ C.model callbacks.now }
-    ensures { IfOk result (λ all. AllZip (IsAnswer (C.model callbacks.now)) trees.now all.items) }
+    requires { typed.now ≡ C.model judge.now.callbacks.now }
+    ensures { IfOk result (λ all. AllZip (IsAnswer judge.now.order (C.model judge.now.callbacks.now)) trees.now all.items) }
 {
     prove_models_are_sync();
     trees
@@ -88,9 +88,9 @@ pub fn read_and_judge_each_tree<C: Callbacks + Sync, R: Threads + Sync>(
         .with_min_len(1)
         .map(
             |tree: &Tree| -> Result<ItemResult, AllocError>
-                requires { typed.now ≡ C.model callbacks.now }
-                ensures { IfOk result (IsAnswer (C.model callbacks.entry.now) tree.now) }
-            { read_and_judge_tree_with_progress(callbacks, alloc, typed, tree, steps) },
+                requires { typed.now ≡ C.model judge.now.callbacks.now }
+                ensures { IfOk result (IsAnswer judge.entry.now.order (C.model judge.entry.now.callbacks.now) tree.now) }
+            { read_and_judge_tree_with_progress(judge, alloc, typed, tree, steps) },
         )
         .collect::<Result<Vec<ItemResult>, AllocError>>(rt, alloc)?
 }

@@ -8,6 +8,7 @@ use crate::reading::{ItemResult, read_and_judge_tree};
 use crate::sharing::prove_models_are_sync;
 use pst_eval::Callbacks;
 use pst_json_runs::{begins_like_json_item, json_line_tree_or_empty};
+use pst_judge::Judge;
 use pst_model::Typed;
 use pst_runs::RunFaultKind;
 use pst_sexpr::{FaultKind, MAX_BYTES, read};
@@ -20,13 +21,13 @@ const FEW_LINES: usize = 16;
 
 /// Reads and judges the tree that a line spells. A line that spells none, or more than one, is refused as `BadForm`.
 fn judge_tree_on_line<C: Callbacks>(
-    callbacks: &C,
+    judge: &Judge<'_, C>,
     alloc: Global,
     typed: &Typed,
     line: &[u8],
 ) -> Result<ItemResult, AllocError>
-    requires { typed.now ≡ C.model callbacks.now }
-    ensures { IfOk result (IsTreeAnswer (C.model callbacks.now) line.now) }
+    requires { typed.now ≡ C.model judge.now.callbacks.now }
+    ensures { IfOk result (IsTreeAnswer judge.now.order (C.model judge.now.callbacks.now) line.now) }
 {
     let refused = ItemResult::Refused {
         kind: RunFaultKind::BadForm,
@@ -44,19 +45,19 @@ fn judge_tree_on_line<C: Callbacks>(
     if trees.len() != 1 {
         return Ok(refused);
     }
-    read_and_judge_tree(callbacks, alloc, typed, &trees[0])
+    read_and_judge_tree(judge, alloc, typed, &trees[0])
 }
 
 /// Reads and judges the JSON item of a line. A line that is longer than a file may be is refused as `BadForm`.
 fn judge_json_item_on_line<C: Callbacks>(
-    callbacks: &C,
+    judge: &Judge<'_, C>,
     alloc: Global,
     typed: &Typed,
     line: &[u8],
 ) -> Result<ItemResult, AllocError>
-    requires model { typed.now ≡ C.model callbacks.now }
+    requires model { typed.now ≡ C.model judge.now.callbacks.now }
     requires json { has_json line.now ≡ true }
-    ensures { IfOk result (IsLineAnswer (C.model callbacks.now) line.now) }
+    ensures { IfOk result (IsLineAnswer judge.now.order (C.model judge.now.callbacks.now) line.now) }
 {
     if line.len() > MAX_BYTES {
         return Ok(ItemResult::Refused {
@@ -65,38 +66,38 @@ fn judge_json_item_on_line<C: Callbacks>(
         });
     }
     let tree = json_line_tree_or_empty(alloc, typed.source(), line)?;
-    read_and_judge_tree(callbacks, alloc, typed, &tree)
+    read_and_judge_tree(judge, alloc, typed, &tree)
 }
 
 /// Reads and judges the item that a line spells, as a tree or as JSON. A line that spells none, or more than one, is refused
 /// as `BadForm`.
 fn judge_item_on_line<C: Callbacks>(
-    callbacks: &C,
+    judge: &Judge<'_, C>,
     alloc: Global,
     typed: &Typed,
     line: &[u8],
 ) -> Result<ItemResult, AllocError>
-    requires { typed.now ≡ C.model callbacks.now }
-    ensures { IfOk result (IsLineAnswer (C.model callbacks.now) line.now) }
+    requires { typed.now ≡ C.model judge.now.callbacks.now }
+    ensures { IfOk result (IsLineAnswer judge.now.order (C.model judge.now.callbacks.now) line.now) }
 {
     if begins_like_json_item(line) {
-        judge_json_item_on_line(callbacks, alloc, typed, line)
+        judge_json_item_on_line(judge, alloc, typed, line)
     } else {
-        judge_tree_on_line(callbacks, alloc, typed, line)
+        judge_tree_on_line(judge, alloc, typed, line)
     }
 }
 
 /// Judges each line, and returns the answers in order. Several threads judge the lines at once.
 pub(crate) fn judge_items_on_lines<C: Callbacks + Sync, R: Threads + Sync>(
     rt: &R,
-    callbacks: &C,
+    judge: &Judge<'_, C>,
     alloc: Global,
     typed: &Typed,
     lines: &[Vec<u8>],
 ) -> Result<Vec<ItemResult>, AllocError>
-    requires { typed.now ≡ C.model callbacks.now }
+    requires { typed.now ≡ C.model judge.now.callbacks.now }
     ensures { IfOk result (λ answers.
-        AllZip (λ line. IsLineAnswer (C.model callbacks.now) line.items) lines.now answers.items) }
+        AllZip (λ line. IsLineAnswer judge.now.order (C.model judge.now.callbacks.now) line.items) lines.now answers.items) }
 {
     prove_models_are_sync();
     lines
@@ -104,9 +105,9 @@ pub(crate) fn judge_items_on_lines<C: Callbacks + Sync, R: Threads + Sync>(
         .with_min_len(FEW_LINES)
         .map(
             |line: &Vec<u8>| -> Result<ItemResult, AllocError>
-                requires { typed.now ≡ C.model callbacks.now }
-                ensures { IfOk result (IsLineAnswer (C.model callbacks.entry.now) line.now.items) }
-            { judge_item_on_line(callbacks, alloc, typed, line.as_slice()) },
+                requires { typed.now ≡ C.model judge.now.callbacks.now }
+                ensures { IfOk result (IsLineAnswer judge.entry.now.order (C.model judge.entry.now.callbacks.now) line.now.items) }
+            { judge_item_on_line(judge, alloc, typed, line.as_slice()) },
         )
         .collect::<Result<Vec<ItemResult>, AllocError>>(rt, alloc)?
 }

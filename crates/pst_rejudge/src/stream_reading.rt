@@ -8,6 +8,7 @@ ghost use Rattle.std.specs.Io.KnownBytes.{Consumes, IsAtEnd, Keeps};
 use crate::reading::ItemResult;
 use crate::stream_judging::judge_items_on_lines;
 use pst_eval::Callbacks;
+use pst_judge::Judge;
 use pst_model::Typed;
 use pst_sexpr::MAX_BYTES;
 use std::alloc::{AllocError, Global};
@@ -51,27 +52,27 @@ impl From<Unread> for StreamFault {
 /// last line, if one has begun. `buffer` receives the bytes, and `kept` is the beginning of the line that has
 /// not ended, at first empty.
 ///
-/// `typed` is the model of the callbacks. After a fault the stream cannot be continued.
+/// `typed` is the model of the judge's callbacks. After a fault the stream cannot be continued.
 pub fn read_once_and_judge_ended_lines<I: Read, C: Callbacks + Sync, R: Threads + Sync>(
     rt: &R,
-    callbacks: &C,
+    judge: &Judge<'_, C>,
     alloc: Global,
     typed: &Typed,
     reader: &mut I,
     buffer: &mut [u8],
     kept: &mut Vec<u8>,
 ) -> Result<Block, StreamFault>
-    requires model { typed.now ≡ C.model callbacks.now }
+    requires model { typed.now ≡ C.model judge.now.callbacks.now }
     requires room { 0 < length buffer.old }
     ensures same { length buffer.new ≡ length buffer.old }
     ensures block { IfOk result (λ block. (line : List ℕ) → kept.old.items ≡ take (suc max_bytes) line
-        → IsBlock (C.model callbacks.now) (I.remaining reader.old) (I.remaining reader.new) line kept.new.items
+        → IsBlock judge.now.order (C.model judge.now.callbacks.now) (I.remaining reader.old) (I.remaining reader.new) line kept.new.items
         block.is_last block.answers.items) }
 {
     let count = read_once_despite_interruptions(reader, buffer)?;
     if count == 0 {
         let lines = take_last_unended_line(alloc, kept)?;
-        let answers = judge_items_on_lines(rt, callbacks, alloc, typed, lines.as_slice())?;
+        let answers = judge_items_on_lines(rt, judge, alloc, typed, lines.as_slice())?;
         return Ok(Block {
             answers,
             is_last: true,
@@ -79,7 +80,7 @@ pub fn read_once_and_judge_ended_lines<I: Read, C: Callbacks + Sync, R: Threads 
     }
     let mut lines = Vec::new(alloc);
     split_bytes_into_lines(alloc, MAX_KEPT, &mut lines, kept, &buffer[..count])?;
-    let answers = judge_items_on_lines(rt, callbacks, alloc, typed, lines.as_slice())?;
+    let answers = judge_items_on_lines(rt, judge, alloc, typed, lines.as_slice())?;
     Ok(Block {
         answers,
         is_last: false,

@@ -1,5 +1,7 @@
 -- The first members of the object of a campaign: how it ended, its plan, and its counts.
 use Rattle.std.specs.Prelude.{ℕ, List, [], ◌∷◌, ◌++◌, codes}
+use Rattle.pst_judge.specs.declared.by_order.CallOrder.{CallOrder}
+use Rattle.pst_judge.specs.declared.by_order.CallOrder.TheVariants.{Any, Time}
 use Rattle.pst_rejudge.specs.declared.field.Field.{Field}
 use Rattle.pst_rejudge.specs.declared.field.Field.TheVariants.{Number, Words}
 use Rattle.pst_rejudge.specs.declared.field.FieldName.{FieldName}
@@ -26,10 +28,15 @@ case_fields s =
     Number name.Seed s.seed ∷ Number name.Trials s.trials ∷ Number name.Commands s.commands
     ∷ Number name.Branches s.branches ∷ []
 
--- how cases are driven
+-- the order of the calls, where it is that of their times
+abbrev pub order_fields : CallOrder → List Field
+order_fields Any = []
+order_fields Time = Words name.Order (codes "time") ∷ []
+
+-- how cases are driven, and which interleavings may explain a run
 abbrev pub drive_fields : Settings → List Field
 drive_fields s =
-    Number name.Suffix s.suffix ∷ Number name.Repeats s.repeats ∷ Number name.Limit s.limit ∷ []
+    Number name.Suffix s.suffix ∷ Number name.Repeats s.repeats ∷ Number name.Limit s.limit ∷ order_fields s.order
 
 -- how many numbers ended in the way of a kind
 abbrev pub count_field : FieldName → EntryKind → List (Entry RecordView) → Field

@@ -8,6 +8,8 @@ use Rattle.pst_ledger.specs.Names.{cause_name}
 use Rattle.pst_ledger.specs.declared.entry.Cause.{Cause}
 use Rattle.pst_ledger.specs.declared.entry.Entry.{Entry}
 use Rattle.pst_ledger.specs.declared.entry.Entry.TheVariants as entry
+use Rattle.pst_judge.specs.declared.by_order.CallOrder.{CallOrder}
+use Rattle.pst_judge.specs.declared.by_order.CallOrder.TheVariants.{Any, Time}
 use Rattle.pst_model.specs.declared.model.Source.{Source}
 use Rattle.pst_report.specs.Kinds.{count_of, own_failure}
 use Rattle.pst_report.specs.Least.{least_fault, least_failure}
@@ -50,8 +52,14 @@ branches_part b = if b == 2 then [] else codes " branches " ++ decimal b
 abbrev pub suffix_part : ℕ → List ℕ
 suffix_part n = if n == 0 then [] else codes " suffix " ++ decimal n
 
+-- ` order time` where runs are judged in the order of their times
+abbrev pub order_part : CallOrder → List ℕ
+order_part Any = []
+order_part Time = codes " order time"
+
 abbrev pub settings_line : Settings → List ℕ
-settings_line s = numbers_part s ++ branches_part s.branches ++ suffix_part s.suffix ++ line_end
+settings_line s =
+    numbers_part s ++ branches_part s.branches ++ suffix_part s.suffix ++ order_part s.order ++ line_end
 
 abbrev pub plan_lines : PlanView → List ℕ
 plan_lines p = name_line p.model ++ settings_line p.settings

@@ -9,6 +9,7 @@ use crate::failures::first_failed_trial;
 use crate::status::{
     CampaignStatus, EntryKind, count_entries_of_kind, failing_run_before_shrinking,
 };
+use pst_judge::CallOrder;
 use pst_ledger::{Closed, Entry};
 use pst_model::Typed;
 use pst_rejudge::{Field, FieldName, add_number_field, add_text_field};
@@ -41,8 +42,23 @@ fn add_seed_trials_commands_branches_fields(
     add_number_field(fields, FieldName::Branches, settings.branches as u64)
 }
 
-/// Adds how cases are driven.
-fn add_suffix_repeats_limit_fields(
+/// Adds the order of the calls, if it is that of their times.
+fn add_order_field(
+    alloc: Global,
+    fields: &mut Vec<Field>,
+    order: CallOrder,
+) -> Result<(), AllocError>
+    ensures { OnOk result (fields.new.items ≡ fields.old.items ++ spec.order_fields order) }
+{
+    match order {
+        CallOrder::Any => Ok(()),
+        CallOrder::Time => add_text_field(alloc, fields, FieldName::Order, "time"),
+    }
+}
+
+/// Adds how cases are driven, and which interleavings may explain a run.
+fn add_drive_fields(
+    alloc: Global,
     fields: &mut Vec<Field>,
     settings: &Settings,
 ) -> Result<(), AllocError>
@@ -50,7 +66,8 @@ fn add_suffix_repeats_limit_fields(
 {
     add_number_field(fields, FieldName::Suffix, settings.suffix as u64)?;
     add_number_field(fields, FieldName::Repeats, settings.repeats as u64)?;
-    add_number_field(fields, FieldName::Limit, settings.limit as u64)
+    add_number_field(fields, FieldName::Limit, settings.limit as u64)?;
+    add_order_field(alloc, fields, settings.order)
 }
 
 /// Adds how many numbers ended in the way of a kind.
@@ -123,7 +140,7 @@ pub fn campaign_report_fields_before_losses(
         plan.typed().source().name.as_str(),
     )?;
     add_seed_trials_commands_branches_fields(&mut fields, plan.settings())?;
-    add_suffix_repeats_limit_fields(&mut fields, plan.settings())?;
+    add_drive_fields(alloc, &mut fields, plan.settings())?;
     add_passed_and_failed_counts(&mut fields, entries)?;
     add_counts_of_trials_without_run(&mut fields, entries)?;
     Ok(fields)

@@ -9,6 +9,7 @@ ghost use Rattle.pst_report.specs.Written.{WritesReport};
 use crate::counterexample::failed_trial_report_lines;
 use crate::counts::entry_count_report_lines;
 use crate::failures::first_failed_trial;
+use pst_judge::CallOrder;
 use pst_ledger::{Closed, Entry};
 use pst_model::Typed;
 use pst_sexpr::{Sink, WriteFailed, put_all};
@@ -150,6 +151,16 @@ fn suffix_part_unless_zero(alloc: Global, suffix: u32) -> Result<String, AllocEr
     }
 }
 
+/// ` order time` if runs are judged in the order of their times.
+fn order_part_unless_any(order: CallOrder) -> &'static str
+    ensures { result.now ≡ spec.order_part order }
+{
+    match order {
+        CallOrder::Any => "",
+        CallOrder::Time => " order time",
+    }
+}
+
 /// `seed S trials N commands C repeats R limit X`.
 fn always_printed_settings_part(alloc: Global, settings: &Settings) -> Result<String, AllocError>
     ensures { IfOk result (λ part. string_bytes part ≡ spec.numbers_part settings.now) }
@@ -171,6 +182,7 @@ fn campaign_settings_report_line(alloc: Global, settings: &Settings) -> Result<S
     let mut line = always_printed_settings_part(alloc, settings)?;
     line.push_str(branches_part_unless_two(alloc, settings.branches)?.as_str())?;
     line.push_str(suffix_part_unless_zero(alloc, settings.suffix)?.as_str())?;
+    line.push_str(order_part_unless_any(settings.order))?;
     line.push_str("\n")?;
     Ok(line)
 }

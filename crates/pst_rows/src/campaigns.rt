@@ -88,6 +88,7 @@ fn campaign_settings_of_request(request: &Request<'_>) -> Settings {
         suffix,
         repeats,
         limit,
+        order,
     } = Settings::default();
     Settings {
         seed: request.option_number_or_default("seed", 0) as u64,
@@ -97,6 +98,7 @@ fn campaign_settings_of_request(request: &Request<'_>) -> Settings {
         suffix: request.option_number_or_default("suffix", suffix),
         repeats: request.option_number_or_default("repeats", repeats),
         limit: request.option_number_or_default("limit", limit),
+        order,
     }
 }
 

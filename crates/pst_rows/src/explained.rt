@@ -6,6 +6,7 @@ use crate::requests::Request;
 use pst_cli::{
     ChosenItems, ExplainOptions, ExplanationForm, Status, explain_text, write_search_graph_of_item,
 };
+use pst_judge::CallOrder;
 use pst_sexpr::Out;
 use pst_sources::{SourceFile, joined_text_of_files};
 use std::alloc::{AllocError, Global};
@@ -48,6 +49,7 @@ fn explanation_text_with_status_line<R: Threads + Sync>(
     let input = joined_text_of_files(alloc, files)?;
     let mut out = Out::new(Vec::new(alloc));
     let options = ExplainOptions {
+        order: CallOrder::Time,
         files,
         chosen,
         most: usize::MAX,

@@ -1,7 +1,9 @@
 //! The answers about cases and runs, and about the cores of runs.
 ghost use Rattle.std.specs.Prelude.{◌≡◌, true, IfSome};
 ghost use Rattle.pst_case.specs.Matches.{matches};
-ghost use Rattle.pst_judge.specs.Verdict.{IsVerdict};
+ghost use Rattle.pst_grid.specs.Orders.{NeverBlocks};
+ghost use Rattle.pst_judge.specs.InOrder.{IsVerdictInOrder};
+ghost use Rattle.pst_judge.specs.Replay.{branch_lengths};
 ghost use Rattle.pst_judge.specs.declared.judgement.Verdict.TheVariants as verdict;
 ghost use Rattle.pst_runs.specs.Lawful.{AreLawful};
 
@@ -9,9 +11,11 @@ use crate::models::{lines_joined_by_commas, status_and_lines_answer, text_of_byt
 use pst_case::{Case, History, Run, shape};
 use pst_cli::judge_text;
 use pst_eval::Plain;
-use pst_judge::{Valid, Verdict, judge_one, valid, verdict};
+use pst_judge::{
+    CallOrder, RecordedOrder, Valid, Verdict, judge_one, valid, verdict_by, verdict_in_order,
+};
 use pst_model::Typed;
-use pst_reasons::{RecordedRun, minimal_core};
+use pst_reasons::{Order, RecordedRun, minimal_core};
 use pst_runs::{read_runs, write_runs};
 use pst_sexpr::{Out, read};
 use pst_tests::support::typed_model_of_text;
@@ -30,7 +34,7 @@ pub fn judge_output_answer<R: Threads + Sync>(
     status_and_lines_answer(alloc, status, sink.into_inner().as_slice())
 }
 
-/// The verdict on a run, `case` for a case.
+/// The verdict on a run in the order of its times, `case` for a case.
 fn verdict_or_problem_text_of_run(
     alloc: Global,
     typed: &Typed,
@@ -46,7 +50,14 @@ fn verdict_or_problem_text_of_run(
     if !history.matches(typed, &shaped) {
         return String::from_str(alloc, "no match");
     }
-    verdict(&Plain::new(typed), alloc, &shaped, &history)?.text(alloc)
+    verdict_by(
+        &Plain::new(typed),
+        CallOrder::Time,
+        alloc,
+        &shaped,
+        &history,
+    )?
+    .text(alloc)
 }
 
 /// The verdicts, one after another.
@@ -217,21 +228,24 @@ fn core_text(alloc: Global, core: &[u32]) -> Result<String, AllocError> {
     Ok(text)
 }
 
-/// The core of a run with the verdict `found`, or the word of the verdict if it has no core.
-fn core_text_or_verdict_name(
+/// The core of a run with the verdict `found` in an order, or the word of the verdict if it has no core.
+fn core_text_or_verdict_name<O: Order>(
     alloc: Global,
     typed: &Typed,
     run: &Run,
     history: &History,
+    order: &O,
     found: Verdict,
 ) -> Result<String, AllocError>
     requires model { run.now.shaped.model ≡ typed.now }
     requires matches { matches typed.now run.now.shaped.case history.now ≡ true }
-    requires verdict { IsVerdict typed.now run.now.shaped.case history.now found }
+    requires progress { NeverBlocks (O.order order.now) (branch_lengths run.now.shaped.case) }
+    requires verdict { IsVerdictInOrder typed.now (O.order order.now) run.now.shaped.case history.now found }
 {
     let callbacks = Plain::new(typed);
     let recorded = RecordedRun {
         callbacks: &callbacks,
+        order,
         alloc,
         shaped: &run.shaped,
         history,
@@ -245,7 +259,7 @@ fn core_text_or_verdict_name(
     core_text(alloc, core.as_slice())
 }
 
-/// The core of a run, or the word of its verdict if it has no core.
+/// The core of a run in the order of its times, or the word of its verdict if it has no core.
 fn core_or_verdict_text_of_run(
     alloc: Global,
     typed: &Typed,
@@ -257,8 +271,10 @@ fn core_or_verdict_text_of_run(
     let Some(history) = &run.history else {
         return String::from_str(alloc, "case");
     };
-    let found = verdict(&Plain::new(typed), alloc, &run.shaped, history)?;
-    core_text_or_verdict_name(alloc, typed, run, history, found)
+    let shaped = &run.shaped;
+    let order = RecordedOrder::new(alloc, CallOrder::Time, shaped, history)?;
+    let found = verdict_in_order(&Plain::new(typed), &order, alloc, shaped, history)?;
+    core_text_or_verdict_name(alloc, typed, run, history, &order, found)
 }
 
 /// The core of the first run, or the word of its verdict if it has no core.

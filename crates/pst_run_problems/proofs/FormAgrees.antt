@@ -1,12 +1,12 @@
 -- A fault in the form of an item is found exactly where the reader refuses the form.
-use Rattle.std.proofs.Common.{◌≡◌, ℕ, ◌+◌, ◌==◌, ◌&&◌, Bool, true, false, not, if◌then◌else◌, List, [], ◌∷◌, ◌++◌, length, Option, Some, None, ◌⊎◌, inl, inr, refl, sym, ap, subst, ◌∙◌}
+use Rattle.std.proofs.Common.{◌≡◌, ℕ, ◌+◌, ◌==◌, ◌&&◌, Bool, true, false, not, if◌then◌else◌, List, [], ◌∷◌, ◌++◌, length, Option, Some, None, ◌⊎◌, inl, inr, refl, sym, ap, subst, append_assoc, ◌∙◌}
 use Rattle.std.specs.Prelude.{codes}
 use Rattle.std.specs.List.{list_all}
-use Rattle.std.specs.Option.{is_some, option_or}
+use Rattle.std.specs.Option.{is_some, is_none, option_or}
 use Rattle.std.specs.Str.{bytes_eq}
 use Rattle.std.proofs.lemmas.Slice.Eq.{bytes_eq-Decides}
 use Rattle.pst_run_problems.proofs.Agree.{Agrees, both_agree, later_found, none_agree, then_agree, found_agree, map_agree, some_agree, nested_agree, each_agree, length_each}
-use Rattle.pst_run_problems.specs.ItemForm.{word, is_word, is_call_at, is_call, no_call, calls_fault, in_section, section_fault, in_branch, branch_fault, branches_from, branches_fault, count, in_replies, replies_fault, end_fault, in_suffix, rest_fault, right_fault, in_branches, after_prefix, parts_fault, case_fault, form_fault}
+use Rattle.pst_run_problems.specs.ItemForm.{word, is_word, is_call_at, is_call, no_call, calls_fault, in_section, section_fault, in_branch, branch_fault, branches_from, branches_fault, after_all, count, time_lists_fault, in_times, times_fault, in_replies, replies_fault, end_fault, in_suffix, rest_fault, right_fault, in_branches, after_prefix, parts_fault, case_fault, form_fault}
 use Rattle.pst_run_problems.specs.declared.form_fault.CaseFormFault.{CaseFormFault}
 use Rattle.pst_run_problems.specs.declared.form_fault.CaseFormFault.TheVariants.{Missing, NoCall, NoBranchCall}
 use Rattle.pst_run_problems.specs.declared.form_fault.PartsWithReplyLists.{PartsWithReplyLists}
@@ -97,18 +97,59 @@ apart one other f found d h = apart_node one other (node_of f) d found h
 
 -- ---- the lists of replies
 
-lists_tested : {A : Type 0} (a b : Bool) (f g : CaseFormFault) (x : A) → Agrees (if a then (if b then None else Some f) else Some g) (if a && b then Some x else None)
-lists_tested true true f g x = none_agree x
-lists_tested true false f g x = both_agree f
-lists_tested false b f g x = both_agree g
+lists_tested : {A : Type 0} (a b t : Bool) (f g : CaseFormFault) (x : A) (y : Option CaseFormFault) → is_none y ≡ t
+    → Agrees (option_or y (if a then (if b then None else Some f) else Some g)) (if (a && b) && t then Some x else None)
+lists_tested a b true f g x (Some z) h = absurd (cc)
+lists_tested a b false f g x None h = absurd (cc)
+lists_tested true true true f g x None h = none_agree x
+lists_tested true false true f g x None h = both_agree f
+lists_tested false b true f g x None h = both_agree g
+lists_tested true true false f g x (Some z) h = both_agree z
+lists_tested true false false f g x (Some z) h = both_agree z
+lists_tested false b false f g x (Some z) h = both_agree z
+
+none_tested : (a b : Bool) (f g : CaseFormFault) → is_none (if a then (if b then None else Some f) else Some g) ≡ (a && b)
+none_tested true true f g = refl
+none_tested true false f g = refl
+none_tested false b f g = refl
+
+-- as many lists of times as branches
+time_lists_same : (c : SpelledCase) (parts : PartsWithReplyLists) (times : List Form) → parts.branches ≡ length c.branches
+    → is_none (time_lists_fault parts times) ≡ form.are_time_lists (Some times) c
+time_lists_same c parts times q =
+    none_tested (length times == parts.branches) _ _ _
+    ∙ ap (λ n. (length times == n) && form.are_nodes times) q
+
+-- what is found behind the replies, and the lists of times that are read there
+record Behind (parts : PartsWithReplyLists) (place : ℕ) (more : List Form) (times : Option (List Form)) (c : SpelledCase) : Type 0 where
+  same : is_none (times_fault parts place more) ≡ form.are_time_lists times c
+
+behind_none : (parts : PartsWithReplyLists) (place : ℕ) (c : SpelledCase) → Behind parts place [] None c
+behind_none parts place c = record { same = refl }
+
+behind_times : (parts : PartsWithReplyLists) (place : ℕ) (c : SpelledCase) (t : Form) (times : List Form) → form.section (codes "times") t ≡ Some times → parts.branches ≡ length c.branches
+    → Behind parts place (t ∷ []) (Some times) c
+behind_times parts place c t times e q = record {
+  same = ap (λ o. is_none (in_times parts place o [])) e ∙ time_lists_same c parts times q;
+}
+
+abbrev read_lists : SpelledCase → form.Sections → Option (List Form) → List Form → Option form.Parts
+read_lists c sections times lists =
+    if form.are_reply_lists lists sections c && form.are_time_lists times c
+    then Some (record { read = c; replies = Some lists; times = times }) else None
 
 -- the replies of a run: as many lists as parts
-replies_at : (c : SpelledCase) (sections : form.Sections) (parts : PartsWithReplyLists) (place : ℕ) (o : Option (List Form)) → count parts ≡ form.number_of_parts sections.suffix c → Agrees {A = CaseFormFault} {B = form.Parts} (in_replies parts place o []) (and_then o (λ lists. if form.is_number_of_parts (length lists) sections c && list_all (λ list. form.is_node (node_of list)) lists then Some (record { read = c; replies = Some lists }) else None))
-replies_at c sections parts place None e = both_agree _
-replies_at c sections parts place (Some lists) e = rw (← e) (lists_tested (length lists == count parts) _ _ _ _)
+replies_at : (c : SpelledCase) (sections : form.Sections) (parts : PartsWithReplyLists) (place : ℕ) (o : Option (List Form)) (more : List Form) (times : Option (List Form))
+    → Behind parts (place + 1) more times c → count parts ≡ form.number_of_parts sections.suffix c
+    → Agrees {A = CaseFormFault} {B = form.Parts} (in_replies parts place o more) (and_then o (read_lists c sections times))
+replies_at c sections parts place None more times b e = both_agree _
+replies_at c sections parts place (Some lists) more times b e =
+    rw (← e) (lists_tested (length lists == count parts) _ (form.are_time_lists times c) _ _ _ (times_fault parts (place + 1) more) b.same)
 
-replies_agree : (c : SpelledCase) (sections : form.Sections) (parts : PartsWithReplyLists) (place : ℕ) (z : Form) → count parts ≡ form.number_of_parts sections.suffix c → Agrees (replies_fault parts place z []) (form.with_replies z sections c)
-replies_agree c sections parts place z e = replies_at c sections parts place (form.section (codes "replies") z) e
+replies_agree : (c : SpelledCase) (sections : form.Sections) (parts : PartsWithReplyLists) (place : ℕ) (z : Form) (more : List Form) (times : Option (List Form))
+    → Behind parts (place + 1) more times c → count parts ≡ form.number_of_parts sections.suffix c
+    → Agrees (replies_fault parts place z more) (form.with_replies z times sections c)
+replies_agree c sections parts place z more times b e = replies_at c sections parts place (form.section (codes "replies") z) more times b e
 
 -- ---- the parts
 
@@ -309,17 +350,34 @@ case_agrees m parts =
     subst (λ ps. Agrees (parts_fault false ps) (form.case_parts m parts)) (all_of parts)
     (body m false [] no_replies case_ending parts)
 
-replies_long : (parts : PartsWithReplyLists) (place : ℕ) (o : Option (List Form)) (d : Form) (more : List Form) → Agrees {A = CaseFormFault} {B = form.Parts} (in_replies parts place o (d ∷ more)) None
-replies_long parts place None d more = both_agree _
-replies_long parts place (Some lists) d more = both_agree _
+abbrev Found : Option CaseFormFault → Type 0
+Found x = Agrees {A = CaseFormFault} {B = form.Parts} x None
 
-end_long : (parts : PartsWithReplyLists) (place : ℕ) (c : Form) (more : List Form) (z : Form) → Agrees {A = CaseFormFault} {B = form.Parts} (end_fault true parts place (c ∷ (more ++ z ∷ []))) None
-end_long parts place c [] z = replies_long parts place (form.section (codes "replies") c) z []
-end_long parts place c (d ∷ more) z = replies_long parts place (form.section (codes "replies") c) d (more ++ z ∷ [])
+-- a tree behind the replies that is no `(times ..)`
+times_other : (parts : PartsWithReplyLists) (place : ℕ) (d : Form) → form.section (codes "times") d ≡ None → Found (times_fault parts place (d ∷ []))
+times_other parts place d e = subst (λ o. Found (in_times parts place o [])) (sym e) (both_agree _)
 
-long_run : (n place : ℕ) (o : Option (List Form)) (c d : Form) (more : List Form) (z : Form) → Agrees {A = CaseFormFault} {B = form.Parts} (in_suffix true n place o c (d ∷ (more ++ z ∷ []))) None
-long_run n place None c d more z = replies_long (record { branches = n; has_suffix = false }) place (form.section (codes "replies") c) d (more ++ z ∷ [])
-long_run n place (Some cs) c d more z = later_found _ _ (end_long (record { branches = n; has_suffix = true }) (place + 1) d more z)
+-- two trees behind the replies
+times_long : (parts : PartsWithReplyLists) (place : ℕ) (o : Option (List Form)) (e : Form) (more : List Form) → Found (in_times parts place o (e ∷ more))
+times_long parts place None e more = both_agree _
+times_long parts place (Some times) e more = both_agree _
+
+first_found : {A B : Type 0} (x y : Option A) → Agrees {A = A} {B = B} x None → Agrees {A = A} {B = B} (option_or x y) None
+first_found None y h = absurd (let e : true ≡ false = h.same in cc)
+first_found (Some a) y h = record { same = refl }
+
+replies_other : (parts : PartsWithReplyLists) (place : ℕ) (o : Option (List Form)) (d : Form) → form.section (codes "times") d ≡ None → Found (in_replies parts place o (d ∷ []))
+replies_other parts place None d e = both_agree _
+replies_other parts place (Some lists) d e = first_found _ _ (times_other parts (place + 1) d e)
+
+replies_long : (parts : PartsWithReplyLists) (place : ℕ) (o : Option (List Form)) (d e : Form) (more : List Form) → Found (in_replies parts place o (d ∷ e ∷ more))
+replies_long parts place None d e more = both_agree _
+replies_long parts place (Some lists) d e more = first_found _ _ (times_long parts (place + 1) (form.section (codes "times") d) e more)
+
+-- trees before the last one
+replies_more : (parts : PartsWithReplyLists) (place : ℕ) (o : Option (List Form)) (d : Form) (more : List Form) (z : Form) (zs : List Form) → Found (in_replies parts place o (d ∷ (more ++ z ∷ zs)))
+replies_more parts place o d [] z zs = replies_long parts place o d z zs
+replies_more parts place o d (e ∷ more) z zs = replies_long parts place o d e (more ++ z ∷ zs)
 
 no_suffix_count : (s : form.Sections) (c : SpelledCase) (n : ℕ) → s.suffix ≡ None → length c.branches ≡ n → n + 1 ≡ form.number_of_parts s.suffix c
 no_suffix_count s c n e q = rw e (ap (λ i. i + 1) (sym q))
@@ -327,27 +385,68 @@ no_suffix_count s c n e q = rw e (ap (λ i. i + 1) (sym q))
 suffix_count : (s : form.Sections) (c : SpelledCase) (n : ℕ) (cs : List Form) → s.suffix ≡ Some cs → length c.branches ≡ n → n + 2 ≡ form.number_of_parts s.suffix c
 suffix_count s c n cs e q = rw e (ap (λ i. i + 2) (sym q))
 
-no_lists : (z : Form) (s : form.Sections) (c : SpelledCase) (zs : List Form) → form.section (codes "suffix") z ≡ Some zs → form.with_replies z s c ≡ None
-no_lists z s c zs e =
-    ap (λ o. and_then o (λ lists. if form.is_number_of_parts (length lists) s c && list_all (λ list. form.is_node (node_of list)) lists then Some (record { read = c; replies = Some lists }) else None))
-    (apart (codes "suffix") (codes "replies") z zs refl e)
+no_lists : (z : Form) (times : Option (List Form)) (s : form.Sections) (c : SpelledCase) (zs : List Form) → form.section (codes "suffix") z ≡ Some zs → form.with_replies z times s c ≡ None
+no_lists z times s c zs e = ap (λ o. and_then o (read_lists c s times)) (apart (codes "suffix") (codes "replies") z zs refl e)
 
-plain_run : (z : Form) (s : form.Sections) (c : SpelledCase) (n place : ℕ) → s.suffix ≡ None → length c.branches ≡ n → Agrees (rest_fault true n place (z ∷ [])) (form.with_replies z s c)
-plain_run z s c n place e q = elim (decide (form.section (codes "suffix") z)) [
-  | inl k ↦ ends_none true n place z [] _ k (replies_agree c s (record { branches = n; has_suffix = false }) place z (no_suffix_count s c n e q))
-  | inr k ↦ ends_some true n place z [] k.0 _ k.1
-      (subst (λ o. Agrees {A = CaseFormFault} {B = form.Parts} (option_or (calls_fault place k.0) (Some (Missing Replies))) o) (sym (no_lists z s c k.0 k.1)) (found_agree _ _))
+-- the replies and what is behind them, where a suffix may stand before them
+plain_run : (z : Form) (more : List Form) (times : Option (List Form)) (s : form.Sections) (c : SpelledCase) (n place : ℕ) → s.suffix ≡ None → length c.branches ≡ n
+    → Behind (record { branches = n; has_suffix = false }) (place + 1) more times c → Found (end_fault true (record { branches = n; has_suffix = true }) (place + 1) more)
+    → Agrees (rest_fault true n place (z ∷ more)) (form.with_replies z times s c)
+plain_run z more times s c n place e q b h = elim (decide (form.section (codes "suffix") z)) [
+  | inl k ↦ ends_none true n place z more _ k (replies_agree c s (record { branches = n; has_suffix = false }) place z more times b (no_suffix_count s c n e q))
+  | inr k ↦ ends_some true n place z more k.0 _ k.1
+      (subst (λ o. Agrees {A = CaseFormFault} {B = form.Parts} (option_or (calls_fault place k.0) (end_fault true (record { branches = n; has_suffix = true }) (place + 1) more)) o)
+      (sym (no_lists z times s c k.0 k.1)) (later_found _ _ h))
 ]
 
-run_ending : (z : Form) → Ending true (z ∷ []) (form.with_replies z)
-run_ending z = record {
+-- ---- behind a run without times
+
+end_run : (parts : PartsWithReplyLists) (place : ℕ) (c : Form) (more : List Form) (z : Form) → form.section (codes "times") z ≡ None → Found (end_fault true parts place (c ∷ (more ++ z ∷ [])))
+end_run parts place c [] z e = replies_other parts place (form.section (codes "replies") c) z e
+end_run parts place c (d ∷ more) z e = replies_more parts place (form.section (codes "replies") c) d more z []
+
+long_run : (n place : ℕ) (o : Option (List Form)) (c d : Form) (more : List Form) (z : Form) → form.section (codes "times") z ≡ None → Found (in_suffix true n place o c (d ∷ (more ++ z ∷ [])))
+long_run n place None c d more z e = replies_more (record { branches = n; has_suffix = false }) place (form.section (codes "replies") c) d more z []
+long_run n place (Some cs) c d more z e = later_found _ _ (end_run (record { branches = n; has_suffix = true }) (place + 1) d more z e)
+
+run_ending : (z : Form) → form.section (codes "times") z ≡ None → Ending true (z ∷ []) (form.with_replies z None)
+run_ending z e = record {
   none = found_agree _ _;
   prefix = found_in true (form.section (codes "branches") z) z [] (both_agree _) (λ n. both_agree _);
   left = found_agree _ _;
-  extra = λ n place c. replies_long (record { branches = n; has_suffix = false }) place (form.section (codes "replies") c) z [];
-  long = λ n place c d more. long_run n place (form.section (codes "suffix") c) c d more z;
-  plain = plain_run z;
-  ended = λ s c n place cs e q. replies_agree c s (record { branches = n; has_suffix = true }) place z (suffix_count s c n cs e q);
+  extra = λ n place c. replies_other (record { branches = n; has_suffix = false }) place (form.section (codes "replies") c) z e;
+  long = λ n place c d more. long_run n place (form.section (codes "suffix") c) c d more z e;
+  plain = λ s c n place o q. plain_run z [] None s c n place o q (behind_none _ _ c) (both_agree _);
+  ended = λ s c n place cs o q. replies_agree c s (record { branches = n; has_suffix = true }) place z [] None (behind_none _ _ c) (suffix_count s c n cs o q);
+}
+
+-- ---- behind a run with times
+
+-- the times stand where the replies have to be
+end_times : (parts : PartsWithReplyLists) (place : ℕ) (z : Form) (zs : List Form) → form.section (codes "times") z ≡ Some zs → Found (end_fault true parts place (z ∷ []))
+end_times parts place z zs e = subst (λ o. Found (in_replies parts place o [])) (sym (apart (codes "times") (codes "replies") z zs refl e)) (both_agree _)
+
+rest_times : (n place : ℕ) (z : Form) (zs : List Form) → form.section (codes "times") z ≡ Some zs → Found (rest_fault true n place (z ∷ []))
+rest_times n place z zs e =
+    ends_none true n place z [] None (apart (codes "times") (codes "suffix") z zs refl e) (end_times (record { branches = n; has_suffix = false }) place z zs e)
+
+end_timed : (parts : PartsWithReplyLists) (place : ℕ) (c : Form) (more : List Form) (y z : Form) → Found (end_fault true parts place (c ∷ (more ++ y ∷ z ∷ [])))
+end_timed parts place c [] y z = replies_long parts place (form.section (codes "replies") c) y z []
+end_timed parts place c (d ∷ more) y z = replies_more parts place (form.section (codes "replies") c) d more y (z ∷ [])
+
+long_timed : (n place : ℕ) (o : Option (List Form)) (c d : Form) (more : List Form) (y z : Form) → Found (in_suffix true n place o c (d ∷ (more ++ y ∷ z ∷ [])))
+long_timed n place None c d more y z = replies_more (record { branches = n; has_suffix = false }) place (form.section (codes "replies") c) d more y (z ∷ [])
+long_timed n place (Some cs) c d more y z = later_found _ _ (end_timed (record { branches = n; has_suffix = true }) (place + 1) d more y z)
+
+timed_ending : (y z : Form) (zs : List Form) → form.section (codes "times") z ≡ Some zs → Ending true (y ∷ z ∷ []) (form.with_replies y (Some zs))
+timed_ending y z zs e = record {
+  none = later_found _ _ (found_in true (form.section (codes "branches") z) z [] (both_agree _) (λ n. both_agree _));
+  prefix = found_in true (form.section (codes "branches") y) y (z ∷ []) (found_agree _ _) (λ n. rest_times n 3 z zs e);
+  left = later_found _ _ (rest_times 2 4 z zs e);
+  extra = λ n place c. replies_long (record { branches = n; has_suffix = false }) place (form.section (codes "replies") c) y z [];
+  long = λ n place c d more. long_timed n place (form.section (codes "suffix") c) c d more y z;
+  plain = λ s c n place o q. plain_run y (z ∷ []) (Some zs) s c n place o q (behind_times (record { branches = n; has_suffix = false }) (place + 1) c z zs e (sym q)) (end_times (record { branches = n; has_suffix = true }) (place + 1) z zs e);
+  ended = λ s c n place cs o q. replies_agree c s (record { branches = n; has_suffix = true }) place y (z ∷ []) (Some zs) (behind_times (record { branches = n; has_suffix = true }) (place + 1) c z zs e (sym q)) (suffix_count s c n cs o q);
 }
 
 -- each list but the empty one has a last
@@ -362,11 +461,32 @@ ends f (next ∷ fs) =
     let more = ends next fs in
     record { front = f ∷ more.front; last = more.last; is = ap (λ ps. f ∷ ps) more.is }
 
-run_front : (m : Source) (front : List Form) (z : Form) → Agrees (parts_fault true (front ++ z ∷ [])) (form.run_parts m (front ++ z ∷ []))
+replied_front : (m : Source) (front : List Form) (y : Form) (more : List Form) (times : Option (List Form)) → Ending true (y ∷ more) (form.with_replies y times)
+    → Agrees (parts_fault true (front ++ y ∷ more)) (form.replied_parts m times (front ++ y ∷ []))
 unfolding Body
+replied_front m front y more times h =
+    subst (λ o. Agrees (parts_fault true (front ++ y ∷ more)) (and_then o (λ p. form.run_sections m p.1 times (form.sections_of p.0)))) (sym (last_behind front y))
+    (body m true (y ∷ more) (form.with_replies y times) h front)
+
+-- the times are last
+timed_front : (m : Source) (front : List Form) (z : Form) (zs : List Form) → form.section (codes "times") z ≡ Some zs
+    → Agrees (parts_fault true (front ++ z ∷ [])) (form.replied_parts m (Some zs) front)
+timed_front m [] z zs e = found_agree _ _
+timed_front m (f ∷ fs) z zs e =
+    let p = ends f fs in
+    let h = replied_front m p.front p.last (z ∷ []) (Some zs) (timed_ending p.last z zs e) in
+    let same : p.front ++ p.last ∷ z ∷ [] ≡ (p.front ++ p.last ∷ []) ++ z ∷ [] = sym (append_assoc p.front (p.last ∷ []) (z ∷ [])) in
+    subst (λ ps. Agrees (parts_fault true (ps ++ z ∷ [])) (form.replied_parts m (Some zs) ps)) p.is
+    (subst (λ ps. Agrees (parts_fault true ps) (form.replied_parts m (Some zs) (p.front ++ p.last ∷ []))) same h)
+
+run_front : (m : Source) (front : List Form) (z : Form) → Agrees (parts_fault true (front ++ z ∷ [])) (form.run_parts m (front ++ z ∷ []))
 run_front m front z =
-    subst (λ o. Agrees (parts_fault true (front ++ z ∷ [])) (and_then o (λ p. form.run_sections m p.1 (form.sections_of p.0)))) (sym (last_behind front z))
-    (body m true (z ∷ []) (form.with_replies z) (run_ending z) front)
+    let parts = front ++ z ∷ [] in
+    subst (λ o. Agrees (parts_fault true parts) (and_then o (λ p. form.run_ending m parts p.0 (form.section (codes "times") p.1)))) (sym (last_behind front z))
+    (elim (decide (form.section (codes "times") z)) [
+      | inl k ↦ subst (λ o. Agrees (parts_fault true parts) (form.run_ending m parts front o)) (sym k) (replied_front m front z [] None (run_ending z k))
+      | inr k ↦ subst (λ o. Agrees (parts_fault true parts) (form.run_ending m parts front o)) (sym k.1) (timed_front m front z k.0 k.1)
+    ])
 
 run_agrees : (m : Source) (parts : List Form) → Agrees (parts_fault true parts) (form.run_parts m parts)
 run_agrees m [] = both_agree _

@@ -9,10 +9,10 @@ use Rattle.std.proofs.lemmas.Option.{slice_get-get_or}
 use Rattle.std.proofs.lemmas.List.Quantifiers.{position-Some}
 use Rattle.std.proofs.Common.{get_or}
 use Rattle.pst_run_problems.proofs.FormAgrees.{call_same, form_agrees}
-use Rattle.pst_run_problems.specs.ItemForm.{word, is_call, no_call, calls_fault, in_section, section_fault, in_branch, branch_fault, branches_from, branches_fault, after_all, count, lists_fault, in_replies, end_fault, in_suffix, rest_fault, right_fault, in_branches, after_prefix, parts_fault, case_fault, form_fault}
+use Rattle.pst_run_problems.specs.ItemForm.{word, is_call, no_call, calls_fault, in_section, section_fault, in_branch, branch_fault, branches_from, branches_fault, after_all, count, lists_fault, time_lists_fault, in_times, times_fault, in_replies, end_fault, in_suffix, rest_fault, right_fault, in_branches, after_prefix, parts_fault, case_fault, form_fault}
 use Rattle.pst_run_problems.specs.Places.{place, is_wanted, is_refused, refused}
 use Rattle.pst_run_problems.specs.declared.form_fault.CaseFormFault.{CaseFormFault}
-use Rattle.pst_run_problems.specs.declared.form_fault.CaseFormFault.TheVariants.{OtherHead, Missing, OtherPart, NoCall, BranchCount, NoBranch, NoBranchCall, Misplaced, ListCount, NoList}
+use Rattle.pst_run_problems.specs.declared.form_fault.CaseFormFault.TheVariants.{OtherHead, Missing, OtherPart, NoCall, BranchCount, NoBranch, NoBranchCall, Misplaced, ListCount, NoList, TimeListCount, NoTimeList}
 use Rattle.pst_run_problems.specs.declared.form_fault.PartsWithReplyLists.{PartsWithReplyLists}
 use Rattle.pst_run_problems.specs.declared.form_fault.RunSection.{RunSection}
 use Rattle.pst_run_problems.specs.declared.form_fault.RunSection.TheVariants.{Prefix, Left, Right, Replies}
@@ -168,12 +168,27 @@ lists_points m trees parts lists =
     (tested m trees (list_all (λ list. form.is_node (node_of list)) lists) None NoList (nothing m trees) (λ _. tt))
     (λ _. tt)
 
+time_lists_points : (m : Source) (trees : List Form) (parts : PartsWithReplyLists) (lists : List Form) → Points m trees (time_lists_fault parts lists)
+time_lists_points m trees parts lists =
+    tested m trees (length lists == parts.branches) _ (TimeListCount (length lists) parts.branches)
+    (tested m trees (list_all (λ list. form.is_node (node_of list)) lists) None NoTimeList (nothing m trees) (λ _. tt))
+    (λ _. tt)
+
+times_points : (m : Source) (trees : List Form) (parts : PartsWithReplyLists) (number : ℕ) (rest : List Form) → From trees number rest → Points m trees (times_fault parts number rest)
+times_points m trees parts number [] h = nothing m trees
+times_points m trees parts number (f ∷ rest) h = elim (decided (form.section (codes "times") f)) [
+  | inl k ↦ subst (λ o. Points m trees (in_times parts number o rest)) (sym k)
+      (found m trees (Misplaced number) (wrong m (Misplaced number) _ f (step trees number [] f (first_of trees number f rest h)) refl))
+  | inr k ↦ subst (λ o. Points m trees (in_times parts number o rest)) (sym k.1)
+      (either m trees _ _ (after_points m trees (number + 1) rest (next_of trees number f rest h)) (time_lists_points m trees parts k.0))
+]
+
 replies_points : (m : Source) (trees : List Form) (parts : PartsWithReplyLists) (number : ℕ) (f : Form) (rest : List Form) → From trees number (f ∷ rest) → Points m trees (in_replies parts number (form.section (codes "replies") f) rest)
 replies_points m trees parts number f rest h = elim (decided (form.section (codes "replies") f)) [
   | inl k ↦ subst (λ o. Points m trees (in_replies parts number o rest)) (sym k)
       (found m trees (OtherPart Replies number) (wrong m (OtherPart Replies number) _ f (step trees number [] f (first_of trees number f rest h)) (ap (λ o. not (is_some o)) k)))
   | inr k ↦ subst (λ o. Points m trees (in_replies parts number o rest)) (sym k.1)
-      (either m trees _ _ (after_points m trees (number + 1) rest (next_of trees number f rest h)) (lists_points m trees parts k.0))
+      (either m trees _ _ (times_points m trees parts (number + 1) rest (next_of trees number f rest h)) (lists_points m trees parts k.0))
 ]
 
 end_points : (m : Source) (trees : List Form) (r : Bool) (parts : PartsWithReplyLists) (number : ℕ) (rest : List Form) → From trees number rest → Points m trees (end_fault r parts number rest)
@@ -228,6 +243,8 @@ whole m f (NoBranchCall number command) h e = absurd (cc)
 whole m f (Misplaced number) h e = absurd (cc)
 whole m f (ListCount lists parts) h e = h
 whole m f NoList h e = h
+whole m f (TimeListCount lists branches) h e = h
+whole m f NoTimeList h e = h
 
 pointed : (m : Source) (f : Form) (trees : List Form) (fault : CaseFormFault) (path : List ℕ) → place fault ≡ path → not (is_some (form.parts_of m f)) ≡ true → node_of f ≡ Some trees → at_path m fault trees path → is_refused m fault (tree_in path f) ≡ true
 pointed m f trees fault [] e h n k = whole m f fault h e

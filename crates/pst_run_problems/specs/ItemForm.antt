@@ -3,7 +3,7 @@ use Rattle.std.specs.Prelude.{◌==◌, ◌+◌, ℕ, Bool, true, false, not, if
 use Rattle.std.specs.List.{list_all}
 use Rattle.std.specs.Option.{option_map, option_or}
 use Rattle.pst_run_problems.specs.declared.form_fault.CaseFormFault.{CaseFormFault}
-use Rattle.pst_run_problems.specs.declared.form_fault.CaseFormFault.TheVariants.{OtherHead, Missing, OtherPart, NoCall, BranchCount, NoBranch, NoBranchCall, Misplaced, ListCount, NoList}
+use Rattle.pst_run_problems.specs.declared.form_fault.CaseFormFault.TheVariants.{OtherHead, Missing, OtherPart, NoCall, BranchCount, NoBranch, NoBranchCall, Misplaced, ListCount, NoList, TimeListCount, NoTimeList}
 use Rattle.pst_run_problems.specs.declared.form_fault.PartsWithReplyLists.{PartsWithReplyLists}
 use Rattle.pst_run_problems.specs.declared.form_fault.RunSection.{RunSection}
 use Rattle.pst_run_problems.specs.declared.form_fault.RunSection.TheVariants.{Prefix, Left, Right, Suffix, Replies}
@@ -84,14 +84,29 @@ lists_fault parts lists =
     if length lists == count parts then (if list_all is_list lists then None else Some NoList)
     else Some (ListCount (length lists) parts)
 
+abbrev pub time_lists_fault : PartsWithReplyLists → List Form → Option CaseFormFault
+time_lists_fault parts lists =
+    if length lists == parts.branches then (if list_all is_list lists then None else Some NoTimeList)
+    else Some (TimeListCount (length lists) parts.branches)
+
+abbrev pub in_times : PartsWithReplyLists → ℕ → Option (List Form) → List Form → Option CaseFormFault
+in_times parts place None more = Some (Misplaced place)
+in_times parts place (Some lists) more = option_or (after_all (place + 1) more) (time_lists_fault parts lists)
+
+-- the times may follow the replies
+abbrev pub times_fault : PartsWithReplyLists → ℕ → List Form → Option CaseFormFault
+times_fault parts place [] = None
+times_fault parts place (form ∷ more) = in_times parts place (section (codes "times") form) more
+
 abbrev pub in_replies : PartsWithReplyLists → ℕ → Option (List Form) → List Form → Option CaseFormFault
 in_replies parts place None more = Some (OtherPart Replies place)
-in_replies parts place (Some lists) more = option_or (after_all (place + 1) more) (lists_fault parts lists)
+in_replies parts place (Some lists) more =
+    option_or (times_fault parts (place + 1) more) (lists_fault parts lists)
 
 abbrev pub replies_fault : PartsWithReplyLists → ℕ → Form → List Form → Option CaseFormFault
 replies_fault parts place form more = in_replies parts place (section (word Replies) form) more
 
--- a run has its replies last
+-- a run has its replies behind its case
 abbrev pub end_fault : Bool → PartsWithReplyLists → ℕ → List Form → Option CaseFormFault
 end_fault false parts place forms = after_all place forms
 end_fault true parts place [] = Some (Missing Replies)

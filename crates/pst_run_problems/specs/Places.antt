@@ -3,7 +3,7 @@ use Rattle.std.specs.Prelude.{ℕ, Bool, false, not, List, [], ◌∷◌, slice_
 use Rattle.std.specs.Option.{is_some}
 use Rattle.pst_run_problems.specs.ItemForm.{word}
 use Rattle.pst_run_problems.specs.declared.form_fault.CaseFormFault.{CaseFormFault}
-use Rattle.pst_run_problems.specs.declared.form_fault.CaseFormFault.TheVariants.{OtherHead, Missing, OtherPart, NoCall, BranchCount, NoBranch, NoBranchCall, Misplaced, ListCount, NoList}
+use Rattle.pst_run_problems.specs.declared.form_fault.CaseFormFault.TheVariants.{OtherHead, Missing, OtherPart, NoCall, BranchCount, NoBranch, NoBranchCall, Misplaced, ListCount, NoList, TimeListCount, NoTimeList}
 use Rattle.pst_model.specs.declared.model.Source.{Source}
 use Rattle.pst_runs.specs.Commands.{command_of}
 use Rattle.pst_runs.specs.Forms.{section, many_branches, parts_of}
@@ -22,6 +22,8 @@ place (NoBranchCall number command) = 2 ∷ number ∷ command ∷ []
 place (Misplaced number) = number ∷ []
 place (ListCount lists parts) = []
 place NoList = []
+place (TimeListCount lists branches) = []
+place NoTimeList = []
 
 -- whether a tree is what the tree at fault has to be; no tree may be where one is misplaced
 abbrev pub is_wanted : Source → CaseFormFault → Form → Bool
@@ -35,6 +37,8 @@ is_wanted m (NoBranchCall number command) form = is_some (command_of m form)
 is_wanted m (Misplaced number) form = false
 is_wanted m (ListCount lists parts) form = is_some (parts_of m form)
 is_wanted m NoList form = is_some (parts_of m form)
+is_wanted m (TimeListCount lists branches) form = is_some (parts_of m form)
+is_wanted m NoTimeList form = is_some (parts_of m form)
 
 abbrev pub is_refused : Source → CaseFormFault → Option Form → Bool
 is_refused m fault None = false

@@ -80,6 +80,10 @@ pub enum CaseFormFault {
     ListCount(usize, PartsWithReplyLists),
     /// One of the lists of replies is no list.
     NoList,
+    /// A run has this number of lists of times, and this number of branches.
+    TimeListCount(usize, usize),
+    /// One of the lists of times is no list.
+    NoTimeList,
 }
 
 /// The parts of `form` after the word `word`, if it is a node that begins with this word.
@@ -207,6 +211,36 @@ fn reply_lists_fault(parts: PartsWithReplyLists, lists: &[Form]) -> Option<CaseF
     }
 }
 
+/// The fault of the lists of times of a run with these parts.
+fn time_lists_fault(parts: PartsWithReplyLists, lists: &[Form]) -> Option<CaseFormFault>
+    ensures { result ≡ spec.time_lists_fault parts lists.now }
+{
+    if lists.len() != parts.branches {
+        return Some(CaseFormFault::TimeListCount(lists.len(), parts.branches));
+    }
+    if are_node_forms(lists) {
+        None
+    } else {
+        Some(CaseFormFault::NoTimeList)
+    }
+}
+
+/// The fault of the trees after the replies of a run. The first of them is tree `place`, and may be its times.
+fn fault_after_replies(
+    parts: PartsWithReplyLists,
+    place: usize,
+    forms: &[Form],
+) -> Option<CaseFormFault>
+    requires { place < 2 ^ 33 }
+    ensures { result ≡ spec.times_fault parts place forms.now }
+{
+    let (form, more) = forms.split_first()?;
+    match parts_after_head_word("times", form) {
+        Some(lists) => extra_tree_fault(place + 1, more).or(time_lists_fault(parts, lists)),
+        None => Some(CaseFormFault::Misplaced(place)),
+    }
+}
+
 /// The fault of the tree `place`, which has to be the replies of a run, or of the trees after it.
 fn replies_or_later_tree_fault(
     parts: PartsWithReplyLists,
@@ -219,7 +253,9 @@ fn replies_or_later_tree_fault(
     ensures { result ≡ spec.replies_fault parts place form.now more.now }
 {
     match parts_after_head_word(RunSection::Replies.keyword(), form) {
-        Some(lists) => extra_tree_fault(place + 1, more).or(reply_lists_fault(parts, lists)),
+        Some(lists) => {
+            fault_after_replies(parts, place + 1, more).or(reply_lists_fault(parts, lists))
+        }
         None => Some(CaseFormFault::OtherPart(RunSection::Replies, place)),
     }
 }
@@ -339,7 +375,9 @@ pub fn path_to_form_fault(alloc: Global, fault: CaseFormFault) -> Result<Vec<usi
         CaseFormFault::OtherHead
         | CaseFormFault::Missing(_)
         | CaseFormFault::ListCount(_, _)
-        | CaseFormFault::NoList => Vec::from_slice(alloc, &[]),
+        | CaseFormFault::NoList
+        | CaseFormFault::TimeListCount(_, _)
+        | CaseFormFault::NoTimeList => Vec::from_slice(alloc, &[]),
         CaseFormFault::OtherPart(_, place) | CaseFormFault::Misplaced(place) => {
             Vec::from_slice(alloc, &[place])
         }

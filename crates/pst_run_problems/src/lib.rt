@@ -15,6 +15,7 @@ pub mod laws;
 mod replies;
 mod runs;
 mod shape;
+mod times;
 mod value_fault;
 mod value_problem;
 

@@ -26,18 +26,18 @@ struct LocatedReply<'a> {
     form: &'a Form,
 }
 
-/// The number of the `(replies ..)` tree among the trees of a run, and its lists.
-fn find_reply_lists_with_place(form: &Form) -> Option<(usize, &[Form])> {
+/// The number of the first tree with the head `word` among the trees of a run, and its lists.
+pub fn find_lists_with_place<'a>(form: &'a Form, word: &str) -> Option<(usize, &'a [Form])> {
     for (place, part) in node_parts_or_empty(form).iter().enumerate() {
-        if has_head(part, "replies") {
+        if has_head(part, word) {
             return Some((place, node_parts_after_head(part)));
         }
     }
     None
 }
 
-/// The replies of list `number`, counted from 0.
-fn replies_in_list_or_empty(lists: &[Form], number: usize) -> &[Form]
+/// The trees of list `number`, counted from 0.
+pub fn trees_in_list_or_empty(lists: &[Form], number: usize) -> &[Form]
     ensures { result.now ≡ listed_at lists.now number }
 {
     match lists.get(number) {
@@ -92,7 +92,7 @@ fn first_part_with_wrong_reply_count(
     ensures { result ≡ spec.first_other lists.now number parts.now }
 {
     let (part, others) = parts.split_first()?;
-    if replies_in_list_or_empty(lists, number).len() == part.commands.len() {
+    if trees_in_list_or_empty(lists, number).len() == part.commands.len() {
         first_part_with_wrong_reply_count(lists, number + 1, others)
     } else {
         Some(number)
@@ -117,7 +117,7 @@ fn first_wrong_reply_count_problem(
             alloc,
             &path,
             part,
-            replies_in_list_or_empty(lists, number).len(),
+            trees_in_list_or_empty(lists, number).len(),
         ),
         None => Ok(None),
     }
@@ -130,7 +130,7 @@ pub fn wrong_reply_or_list_count_problem(
     form: &Form,
     parts: &[Part<'_>],
 ) -> FoundProblem {
-    match find_reply_lists_with_place(form) {
+    match find_lists_with_place(form, "replies") {
         Some((place, lists)) if lists.len() == parts.len() => {
             first_wrong_reply_count_problem(alloc, item, place, lists, parts)
         }
@@ -153,10 +153,10 @@ fn find_reply_to_command<'a>(
     let Some((number, offset)) = find_part_and_offset_of_command(parts, command) else {
         return None;
     };
-    let Some((place, lists)) = find_reply_lists_with_place(form) else {
+    let Some((place, lists)) = find_lists_with_place(form, "replies") else {
         return None;
     };
-    match replies_in_list_or_empty(lists, number).get(offset) {
+    match trees_in_list_or_empty(lists, number).get(offset) {
         Some(form) => Some(LocatedReply {
             place,
             list: number.saturating_add(1),

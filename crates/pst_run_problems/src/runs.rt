@@ -4,6 +4,7 @@ use crate::arguments::bad_arguments_problem_with_declaration;
 use crate::command::{CaseSearch, Command, Part, find_command, parts_of_case_or_run};
 use crate::replies::{bad_reply_problem, wrong_reply_or_list_count_problem};
 use crate::shape::case_or_run_form_problem_with_note;
+use crate::times::bad_times_problem;
 use crate::value_problem::{SoughtVariable, first_sought_variable_problem};
 use pst_case::CaseFaultKind;
 use pst_model::{Item, Source};
@@ -184,6 +185,7 @@ fn problem_of_run_fault_if_located(
         RunFaultKind::BadForm => case_or_run_form_problem_with_note(alloc, run, form),
         RunFaultKind::NotAFit => wrong_reply_or_list_count_problem(alloc, run, form, search.parts),
         RunFaultKind::BadReply => bad_reply_problem(alloc, search, run, form, command),
+        RunFaultKind::BadTimes => bad_times_problem(alloc, run, form, search.parts, command),
         RunFaultKind::Case(CaseFaultKind::OverLimit) => problem_of_too_many_commands_in_case(
             alloc,
             run,

@@ -22,6 +22,8 @@ struct CaseOrRunSyntax {
     has_branches: bool,
     /// It has a suffix.
     has_suffix: bool,
+    /// It has times.
+    has_times: bool,
 }
 
 impl CaseOrRunSyntax {
@@ -31,6 +33,7 @@ impl CaseOrRunSyntax {
             is_run,
             has_branches: has_part_with_head(form, "branches"),
             has_suffix: has_part_with_head(form, "suffix"),
+            has_times: is_run && has_part_with_head(form, "times"),
         }
     }
 
@@ -54,6 +57,17 @@ impl CaseOrRunSyntax {
     }
 }
 
+impl CaseOrRunSyntax {
+    /// How the times are written, if it has some.
+    fn times_syntax_or_empty(&self) -> &'static str {
+        match (self.has_times, self.has_branches) {
+            (false, _) => "",
+            (true, true) => " (times (TIME ..) (TIME ..) ..)",
+            (true, false) => " (times (TIME ..) (TIME ..))",
+        }
+    }
+}
+
 impl fmt::Display for CaseOrRunSyntax {
     fn fmt<W: fmt::Write>(&self, f: &mut fmt::Formatter<W>) -> fmt::Result {
         let head = if self.is_run { "run" } else { "case" };
@@ -64,9 +78,10 @@ impl fmt::Display for CaseOrRunSyntax {
             ""
         };
         let replies = self.replies_syntax_or_empty();
+        let times = self.times_syntax_or_empty();
         write!(
             f,
-            "it is written `({head} (prefix CALL ..) {branches}{suffix}{replies})`"
+            "it is written `({head} (prefix CALL ..) {branches}{suffix}{replies}{times})`"
         )
     }
 }
@@ -93,6 +108,14 @@ fn misplaced_case_or_run_part_problem(
                 "a case has no replies: with replies it is a run",
             )
         }
+        "times" if !has_head(form, "run") => {
+            problem_at(
+                alloc,
+                path,
+                "a case has no times: a run has them, after its replies",
+            )
+        }
+        "times" => problem_at(alloc, path, "a run has its times once, after its replies"),
         "suffix" => problem_at(
             alloc,
             path,
@@ -131,6 +154,21 @@ fn problem_of_wrong_reply_list_count(
         );
     }
     problem_at(alloc, path, what)
+}
+
+/// The problem of a run with `lists` lists of times for its branches.
+fn problem_of_wrong_time_list_count(
+    alloc: Global,
+    path: &[usize],
+    lists: usize,
+    branches: usize,
+) -> FoundProblem {
+    let has = counted_noun(lists, "list");
+    problem_at(
+        alloc,
+        path,
+        format_args!("the times are lists, one for each branch: {branches} branches, {has}"),
+    )
 }
 
 /// The problem of a tree that is not written as a call.
@@ -178,6 +216,12 @@ fn case_or_run_form_fault_problem(
         ),
         CaseFormFault::NoList => {
             problem_at(alloc, path, "the replies are lists, one for each part")
+        }
+        CaseFormFault::TimeListCount(lists, branches) => problem_of_wrong_time_list_count(
+            alloc, path, lists, branches,
+        ),
+        CaseFormFault::NoTimeList => {
+            problem_at(alloc, path, "the times are lists, one for each branch")
         }
     }
 }

@@ -1,5 +1,5 @@
 -- A shaped case is read again from what is written for it.
-use Rattle.std.proofs.Common.{◌≡◌, ℕ, ◌+◌, ◌≤◌, ◌&&◌, ◌||◌, not, nat_le, Bool, true, false, length, List, [], ◌∷◌, ◌++◌, map, Option, Some, None, refl, sym, ap, ◌∙◌, subst, arith}
+use Rattle.std.proofs.Common.{◌≡◌, ℕ, ◌+◌, ◌≤◌, ◌&&◌, ◌||◌, not, nat_le, Bool, true, false, length, List, [], ◌∷◌, ◌++◌, map, Option, Some, None, refl, sym, ap, ◌∙◌, subst, append_assoc, arith}
 use Rattle.std.specs.Prelude.{codes, if◌then◌else◌}
 use Rattle.std.specs.List.{list_all}
 use Rattle.std.specs.Str.{bytes_eq}
@@ -188,11 +188,33 @@ module _ (m : Source) where
       ∙ ap (λ o. and_then o reading.without_replies) (case_is c a)
 
   -- a case with replies
-  pub run_read : (c : Case) (replies : Form) → CaseAgain m c → reading.run_parts m (case_forms m c ++ replies ∷ []) ≡ reading.with_replies replies (sections c) (whole_case c)
-  run_read c replies a =
-      ap (λ o. and_then o (λ p. reading.run_sections m p.1 (reading.sections_of p.0))) (last_behind (case_forms m c) replies)
-      ∙ ap (reading.run_sections m replies) (sections_read c)
-      ∙ ap (λ o. and_then o (reading.with_replies replies (sections c))) (case_is c a)
+  replied_read : (c : Case) (times : Option (List Form)) (replies : Form) → CaseAgain m c
+      → reading.replied_parts m times (case_forms m c ++ replies ∷ []) ≡ reading.with_replies replies times (sections c) (whole_case c)
+  replied_read c times replies a =
+      ap (λ o. and_then o (λ p. reading.run_sections m p.1 times (reading.sections_of p.0))) (last_behind (case_forms m c) replies)
+      ∙ ap (reading.run_sections m replies times) (sections_read c)
+      ∙ ap (λ o. and_then o (reading.with_replies replies times (sections c))) (case_is c a)
+
+  pub run_read : (c : Case) (lists : List Form) → CaseAgain m c → let replies = headed (codes "replies") lists in
+      reading.run_parts m (case_forms m c ++ replies ∷ []) ≡ reading.with_replies replies None (sections c) (whole_case c)
+  run_read c lists a =
+      let replies = headed (codes "replies") lists in
+      let forms = case_forms m c ++ replies ∷ [] in
+      ap (λ o. and_then o (λ p. reading.run_ending m forms p.0 (reading.section (codes "times") p.1))) (last_behind (case_forms m c) replies)
+      ∙ ap (reading.run_ending m forms (case_forms m c)) (section_other (codes "times") (codes "replies") lists refl)
+      ∙ replied_read c None replies a
+
+  -- a case with replies and times
+  pub timed_read : (c : Case) (replies : Form) (times : List Form) → CaseAgain m c
+      → reading.run_parts m (case_forms m c ++ replies ∷ headed (codes "times") times ∷ []) ≡ reading.with_replies replies (Some times) (sections c) (whole_case c)
+  timed_read c replies times a =
+      let last = headed (codes "times") times in
+      let front = case_forms m c ++ replies ∷ [] in
+      let forms = front ++ last ∷ [] in
+      ap (reading.run_parts m) (sym (append_assoc (case_forms m c) (replies ∷ []) (last ∷ [])))
+      ∙ ap (λ o. and_then o (λ p. reading.run_ending m forms p.0 (reading.section (codes "times") p.1))) (last_behind front last)
+      ∙ ap (reading.run_ending m forms front) (section_read (codes "times") times refl)
+      ∙ replied_read c (Some times) replies a
 
   -- ---- sizes
 

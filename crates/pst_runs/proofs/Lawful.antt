@@ -1,7 +1,8 @@
--- Each run that is read may be judged: its case is one of the model, and its history matches the case.
-use Rattle.std.proofs.Common.{◌≡◌, ℕ, ◌+◌, ◌&&◌, ◌==◌, Bool, true, false, if◌then◌else◌, List, [], ◌∷◌, length, Option, Some, None, Result, Ok, Err, refl, ap, subst, eqb-true, arith}
+-- Each run that is read may be judged: its case is one of the model, its history matches the case, and its times
+-- fit its calls.
+use Rattle.std.proofs.Common.{◌≡◌, ℕ, ◌+◌, ◌≤◌, ◌&&◌, ◌==◌, Bool, true, false, if◌then◌else◌, List, [], ◌∷◌, length, Option, Some, None, Result, Ok, Err, refl, ap, subst, eqb-true, length-append, arith}
 use Rattle.pst_case.specs.Matches.{reply_fits, part_matches, branches_match, matches}
-use Rattle.pst_case.specs.Shape.{result_type, before_suffix}
+use Rattle.pst_case.specs.Shape.{IsShaped, joined, result_type, before_suffix}
 use Rattle.pst_case.specs.declared.case.Case.{Case}
 use Rattle.pst_case.specs.declared.case.Command.{Command}
 use Rattle.pst_case.specs.declared.shaping.CaseFault.{CaseFault}
@@ -11,11 +12,15 @@ use Rattle.pst_case.specs.declared.history.Reply.TheVariants as reply
 use Rattle.pst_case.specs.declared.history.Run.{Run}
 use Rattle.pst_model.specs.Fitting.{fits_in}
 use Rattle.pst_model.specs.declared.model.Source.{Source}
+use Rattle.pst_runs.proofs.Bound.{both, joined_true, bound, first_and_more, there}
+use Rattle.pst_runs.proofs.Limits.{shaped-within}
+use Rattle.pst_runs.proofs.Timed.{times_read}
 use Rattle.pst_runs.specs.Forms.{Parts, parts_of}
-use Rattle.pst_runs.specs.Items.{run as run_with, with_history, run_of, unless_fault, of_parts, item_of, numbered, runs_from, runs_of}
+use Rattle.pst_runs.specs.Items.{run as run_with, with_times, with_history, run_of, unless_fault, of_parts, item_of, numbered, runs_from, runs_of}
 use Rattle.pst_runs.specs.Lawful.{IsLawful, AreLawful}
 use Rattle.pst_runs.specs.Reading.{readable_case, case_fault}
 use Rattle.pst_runs.specs.Replies.{◌>>=◌, then_more, or_number, listed, listed_at, answered, reply_word, or_value, reply_of, part_replies, branch_replies, history_of, branches_count, are_counted}
+use Rattle.pst_runs.specs.Times.{timed_history}
 use Rattle.pst_runs.specs.Values.{value_of, in_replies}
 use Rattle.pst_sexpr.specs.Parts.{and_then, word_of}
 use Rattle.pst_runs.specs.declared.reader.ItemFault.{ItemFault}
@@ -26,27 +31,6 @@ use Rattle.std.specs.Str.{bytes_eq}
 use Rattle.std.specs.Prelude.{codes}
 
 -- ---- what stands behind an Ok
-
-both : (x y : Bool) → (x && y) ≡ true → (x ≡ true) × (y ≡ true)
-both true y h = (refl, h)
-both false y h = absurd (cc)
-
-joined_true : (x y : Bool) → x ≡ true → y ≡ true → (x && y) ≡ true
-joined_true true true h k = refl
-joined_true true false h k = absurd (cc)
-joined_true false y h k = absurd (cc)
-
-bound : {A B E : Type 0} (r : Result A E) (f : A → Result B E) (b : B) → (r >>= f) ≡ Ok b → (a : A) × (r ≡ Ok a) × (f a ≡ Ok b)
-bound (Ok a) f b h = (a, refl, h)
-bound (Err e) f b h = absurd (cc)
-
-first_and_more : {A E : Type 0} (one : A) (r : Result (List A) E) (out : List A) → then_more one r ≡ Ok out → (more : List A) × (r ≡ Ok more) × ((one ∷ more) ≡ out)
-first_and_more one (Ok more) out h = (more, refl, cc)
-first_and_more one (Err e) out h = absurd (cc)
-
-there : {A : Type 0} (number : ℕ) (o : Option A) (a : A) → or_number number o ≡ Ok a → o ≡ Some a
-there number (Some b) a h = let e : b ≡ a = cc in ap (λ x. Some x) e
-there number None a h = absurd (cc)
 
 unfaulted : (f : Option CaseFault) (r : Result Run ItemFault) (run : Run) → unless_fault f r ≡ Ok run → r ≡ Ok run
 unfaulted None r run h = h
@@ -122,12 +106,13 @@ module _ (m : Source) where
       (whole_part b (listed list) (before + 1) first.0 counts.0 first.1)
       (branches_read bs lists (before + length b) rest.0 counts.1 rest.1))
 
-  -- the history that is read matches the case
-  history_matches : (c : Case) (lists : List Form) (h : History) → are_counted c lists ≡ true → history_of m c lists ≡ Ok h → matches m c h ≡ true
+  -- the history that is read matches the case, and has no times yet
+  history_matches : (c : Case) (lists : List Form) (h : History) → are_counted c lists ≡ true → history_of m c lists ≡ Ok h
+      → (matches m c h ≡ true) × (h.times ≡ None)
   unfolding matches
   history_matches c [] h k e = absurd (cc)
   history_matches c (list ∷ lists) h k e =
-      let history : List Reply → List (List Reply) → List Reply → History = λ p bs s. record { prefix = p; branches = bs; suffix = s } in
+      let history : List Reply → List (List Reply) → List Reply → History = λ p bs s. record { prefix = p; branches = bs; suffix = s; times = None } in
       let last = listed_at lists (length c.branches) in
       let counts = both ((length (listed list) == length c.prefix) && branches_count c.branches lists) (length last == length c.suffix) k in
       let others = both (length (listed list) == length c.prefix) (branches_count c.branches lists) counts.0 in
@@ -138,34 +123,85 @@ module _ (m : Source) where
       let s = bound suffix (λ s. Ok (history p.0 bs.0 s)) h bs.2 in
       let same : history p.0 bs.0 s.0 ≡ h = let f = s.2 in cc in
       let P : History → Type 0 =
-      λ h. (part_matches m c.prefix h.prefix && branches_match m c.branches h.branches && part_matches m c.suffix h.suffix) ≡ true in
+      λ h. ((part_matches m c.prefix h.prefix && branches_match m c.branches h.branches && part_matches m c.suffix h.suffix) ≡ true) × (h.times ≡ None) in
       let first = whole_part c.prefix (listed list) 1 p.0 others.0 p.1 in
       let middle = branches_read c.branches lists (length c.prefix) bs.0 others.1 bs.1 in
       let end = whole_part c.suffix last (before_suffix c + 1) s.0 counts.1 s.1 in
-      subst P same (joined_true (part_matches m c.prefix p.0 && branches_match m c.branches bs.0) (part_matches m c.suffix s.0)
-      (joined_true (part_matches m c.prefix p.0) (branches_match m c.branches bs.0) first middle) end)
+      subst P same (
+        joined_true (part_matches m c.prefix p.0 && branches_match m c.branches bs.0) (part_matches m c.suffix s.0)
+            (joined_true (part_matches m c.prefix p.0) (branches_match m c.branches bs.0) first middle) end,
+        refl,
+      )
+
+  -- ---- its numbers
+
+  part_length : (cs : List Command) (rs : List Reply) → part_matches m cs rs ≡ true → length rs ≡ length cs
+  part_length [] [] e = refl
+  part_length [] (r ∷ rs) e = absurd (cc)
+  part_length (c ∷ cs) [] e = absurd (cc)
+  part_length (c ∷ cs) (r ∷ rs) e =
+      let n = part_length cs rs (both (reply_fits m c r) (part_matches m cs rs) e).1 in
+      omega arith
+
+  branches_length : (bs : List (List Command)) (rss : List (List Reply)) → branches_match m bs rss ≡ true → length (joined rss) ≡ length (joined bs)
+  branches_length [] [] e = refl
+  branches_length [] (rs ∷ rss) e = absurd (cc)
+  branches_length (b ∷ bs) [] e = absurd (cc)
+  branches_length (b ∷ bs) (rs ∷ rss) e =
+      let p = both (part_matches m b rs) (branches_match m bs rss) e in
+      let n = part_length b rs p.0 in
+      let k = branches_length bs rss p.1 in
+      let l = length-append rs (joined rss) in
+      let r = length-append b (joined bs) in
+      omega arith
+
+  matching_length : (c : Case) (h : History) → matches m c h ≡ true → length h.prefix + length (joined h.branches) ≡ before_suffix c
+  unfolding matches
+  matching_length c h e =
+      let p = both (part_matches m c.prefix h.prefix && branches_match m c.branches h.branches) (part_matches m c.suffix h.suffix) e in
+      let q = both (part_matches m c.prefix h.prefix) (branches_match m c.branches h.branches) p.0 in
+      let n = part_length c.prefix h.prefix q.0 in
+      let k = branches_length c.branches h.branches q.1 in
+      omega arith
+
+  -- at most 80 commands before the suffix
+  pub history_within : (c : Case) (lists : List Form) (h : History) → IsShaped m c → are_counted c lists ≡ true → history_of m c lists ≡ Ok h
+      → length h.prefix + length (joined h.branches) ≤ 88
+  history_within c lists h s k e =
+      let n = matching_length c h (history_matches c lists h k e).0 in
+      let w = shaped-within m c s in
+      omega arith
 
   -- ---- items
 
-  counted_run : (c : Case) (run : Run) (counted : Bool) (r : Result History ℕ) → (counted ≡ true → (h : History) → r ≡ Ok h → matches m c h ≡ true)
-      → (if counted then with_history m c r else Err (record { kind = NotAFit; command = 0 })) ≡ Ok run → IsLawful m run
-  counted_run c run true (Ok h) p e =
-      let same : run_with m c (Some h) ≡ run = cc in subst (IsLawful m) same (record { model = refl; matching = p refl h refl })
-  counted_run c run true (Err number) p e = absurd (cc)
-  counted_run c run false r p e = absurd (cc)
+  timed_run : (c : Case) (h : History) (times : Option (List Form)) (run : Run) (r : Result History ℕ) → timed_history h times ≡ r
+      → matches m c h ≡ true → h.times ≡ None → with_times m c r ≡ Ok run → IsLawful m run
+  timed_run c h times run (Ok t) q e n o =
+      let same : run_with m c (Some t) ≡ run = cc in
+      let l = times_read m c h times t e n q in
+      subst (IsLawful m) same (record { model = refl; matching = l.matching; timed = l.times })
+  timed_run c h times run (Err number) q e n o = absurd (cc)
 
-  run_lawful : (c : Case) (replies : Option (List Form)) (run : Run) → run_of m c replies ≡ Ok run → IsLawful m run
-  run_lawful c None run e =
-      let same : run_with m c None ≡ run = cc in subst (IsLawful m) same (record { model = refl; matching = tt })
-  run_lawful c (Some lists) run e =
-      counted_run c run (are_counted c lists) (history_of m c lists) (λ k h. history_matches c lists h k) e
+  counted_run : (c : Case) (times : Option (List Form)) (run : Run) (counted : Bool) (r : Result History ℕ)
+      → (counted ≡ true → (h : History) → r ≡ Ok h → (matches m c h ≡ true) × (h.times ≡ None))
+      → (if counted then with_history m c times r else Err (record { kind = NotAFit; command = 0 })) ≡ Ok run → IsLawful m run
+  counted_run c times run true (Ok h) p e =
+      let q = p refl h refl in timed_run c h times run (timed_history h times) refl q.0 q.1 e
+  counted_run c times run true (Err number) p e = absurd (cc)
+  counted_run c times run false r p e = absurd (cc)
+
+  run_lawful : (c : Case) (replies times : Option (List Form)) (run : Run) → run_of m c replies times ≡ Ok run → IsLawful m run
+  run_lawful c None times run e =
+      let same : run_with m c None ≡ run = cc in subst (IsLawful m) same (record { model = refl; matching = tt; timed = tt })
+  run_lawful c (Some lists) times run e =
+      counted_run c times run (are_counted c lists) (history_of m c lists) (λ k h. history_matches c lists h k) e
 
   parts_lawful : (parts : Option Parts) (run : Run) → of_parts m parts ≡ Ok run → IsLawful m run
   parts_lawful None run e = absurd (cc)
   parts_lawful (Some parts) run e =
       let case = readable_case parts.read in
-      let whole = run_of m case parts.replies in
-      run_lawful case parts.replies run (unfaulted (case_fault m parts.read) whole run e)
+      let whole = run_of m case parts.replies parts.times in
+      run_lawful case parts.replies parts.times run (unfaulted (case_fault m parts.read) whole run e)
 
   item_lawful : (form : Form) (run : Run) → item_of m form ≡ Ok run → IsLawful m run
   unfolding item_of

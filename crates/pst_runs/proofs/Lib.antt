@@ -1,4 +1,5 @@
 pub mod Behind
+pub mod Bound
 pub mod Last
 pub mod Lawful
 pub mod Limits
@@ -6,6 +7,7 @@ pub mod Named
 pub mod Present
 pub mod Rooms
 pub mod Small
+pub mod Timed
 pub mod CaseAgain
 pub mod CommandAgain
 pub mod EntryAgain
@@ -17,5 +19,6 @@ pub mod Numbers
 pub mod ReplyAgain
 pub mod Sized
 pub mod Texts
+pub mod TimesAgain
 pub mod ValueAgain
 pub mod WholeAgain

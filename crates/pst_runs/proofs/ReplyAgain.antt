@@ -19,7 +19,7 @@ use Rattle.pst_model.specs.Operations.{HasOperations}
 use Rattle.pst_model.specs.Parts.{parameters_of}
 use Rattle.pst_model.specs.declared.model.Source.{Source}
 use Rattle.pst_model.specs.WellTyped.{WellModel}
-use Rattle.pst_runs.specs.Forms.{Parts, is_node, number_of_parts, with_replies}
+use Rattle.pst_runs.specs.Forms.{Parts, is_node, number_of_parts, are_reply_lists, are_time_lists, with_replies}
 use Rattle.pst_runs.specs.Replies.{◌>>=◌, then_more, or_number, listed, listed_in, listed_at, answered, reply_word, or_value, reply_of, part_replies, branch_replies, history_of, branches_count, are_counted}
 use Rattle.pst_runs.specs.Values.{value_of, in_replies}
 use Rattle.pst_sexpr.specs.Parts.{and_then, node_of}
@@ -220,8 +220,8 @@ module _ (m : Source) (model : WellModel m) (has : HasOperations m.items) (langu
       let lists = lists_sized c.branches h.branches (suffix_lists h.suffix) a.branches p.branches suffix in
       headed_sized _ _ refl (more_sized (list_sized c.prefix h.prefix a.prefix p.prefix) lists) (omega arith)
 
-  abbrev parts : Case → Option (List Form) → Parts
-  parts c replies = record { read = whole_case c; replies = replies }
+  abbrev parts : Case → List Form → Option (List Form) → Parts
+  parts c replies times = record { read = whole_case c; replies = Some replies; times = times }
 
   number_is : (c : Case) (cs : List Command) (rs : List Reply) → part_matches m cs rs ≡ true
       → length c.branches + length (suffix_lists rs) + 1 ≡ number_of_parts (suffix_trees m cs) (whole_case c)
@@ -231,8 +231,9 @@ module _ (m : Source) (model : WellModel m) (has : HasOperations m.items) (langu
   number_is c (d ∷ cs) (r ∷ rs) e = let n = length-map c.branches whole_part in omega arith
 
   -- there is a list for each part
-  pub lists_read : (c : Case) (h : History) → matches m c h ≡ true → with_replies (replies_form h) (sections m c) (whole_case c) ≡ Some (parts c (Some (lists_of h)))
-  lists_read c h e =
+  pub lists_read : (c : Case) (h : History) (times : Option (List Form)) → matches m c h ≡ true → are_time_lists times (whole_case c) ≡ true
+      → with_replies (replies_form h) times (sections m c) (whole_case c) ≡ Some (parts c (lists_of h) times)
+  lists_read c h times e t =
       let p = parts_match c h e in
       let lists = lists_of h in
       let number = number_of_parts (suffix_trees m c.suffix) (whole_case c) in
@@ -241,8 +242,18 @@ module _ (m : Source) (model : WellModel m) (has : HasOperations m.items) (langu
       let n : length lists ≡ number = omega arith in
       let nodes : AreNodes lists =
       both_from _ _ (ap is_node (node_is (map reply_form h.prefix))) (all_nodes h.branches (suffix_lists h.suffix) (suffix_nodes h.suffix)) in
-      ap (λ o. and_then o (λ lists. if (length lists == number) && list_all (λ list. is_node (node_of list)) lists then Some (parts c (Some lists)) else None)) (section_read (codes "replies") lists refl)
-      ∙ ap (λ b. if b then Some (parts c (Some lists)) else None) (both_from _ _ (eq-eqb _ _ n) nodes)
+      ap (λ o. and_then o (λ lists. if are_reply_lists lists (sections m c) (whole_case c) && are_time_lists times (whole_case c) then Some (parts c lists times) else None))
+      (section_read (codes "replies") lists refl)
+      ∙ ap (λ b. if b then Some (parts c lists times) else None) (both_from _ _ (both_from _ _ (eq-eqb _ _ n) nodes) t)
+
+  -- as many branches
+  pub branches_number : (bs : List (List Command)) (rss : List (List Reply)) → branches_match m bs rss ≡ true → length rss ≡ length bs
+  branches_number [] [] e = refl
+  branches_number [] (rs ∷ rss) e = absurd (cc)
+  branches_number (b ∷ bs) [] e = absurd (cc)
+  branches_number (b ∷ bs) (rs ∷ rss) e =
+      let n = branches_number bs rss (both_hold (part_matches m b rs) (branches_match m bs rss) e).1 in
+      omega arith
 
   -- the list of the suffix
   last_listed : (c : Case) (h : History) → branches_match m c.branches h.branches ≡ true
@@ -256,9 +267,12 @@ module _ (m : Source) (model : WellModel m) (has : HasOperations m.items) (langu
       let last = ap (λ forms. length forms == length c.suffix) (last_listed c h p.branches) ∙ forms_count c.suffix h.suffix p.suffix in
       both_from _ _ front last
 
-  pub history_read : (c : Case) (h : History) → CaseAgain m c → matches m c h ≡ true → history_of m c (lists_of h) ≡ Ok h
+  abbrev pub untimed : History → History
+  untimed h = record { prefix = h.prefix; branches = h.branches; suffix = h.suffix; times = None }
+
+  pub history_read : (c : Case) (h : History) → CaseAgain m c → matches m c h ≡ true → history_of m c (lists_of h) ≡ Ok (untimed h)
   history_read c h a e =
-      let history : List Reply → List (List Reply) → List Reply → History = λ p bs s. record { prefix = p; branches = bs; suffix = s } in
+      let history : List Reply → List (List Reply) → List Reply → History = λ p bs s. record { prefix = p; branches = bs; suffix = s; times = None } in
       let p = parts_match c h e in
       let rest = map list_form h.branches ++ suffix_lists h.suffix in
       let branches = branch_replies m (length c.prefix) c.branches rest in

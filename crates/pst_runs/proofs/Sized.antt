@@ -37,6 +37,15 @@ last_sized {depth} {last} (form ∷ forms) all one =
     let others : AllSized depth forms = record { lawful = all.lawful.1; level = omega arith } in
     more_sized first (last_sized forms others one)
 
+-- and others behind them
+pub all_sized : {depth : ℕ} (forms others : List Form) → AllSized depth forms → AllSized depth others → AllSized depth (forms ++ others)
+all_sized [] others all more = more
+all_sized {depth} (form ∷ forms) others all more =
+    let l = all.level in
+    let first : Sized depth form = record { lawful = all.lawful.0; level = omega arith } in
+    let rest : AllSized depth forms = record { lawful = all.lawful.1; level = omega arith } in
+    more_sized first (all_sized forms others rest more)
+
 pub word_sized : (depth : ℕ) (word : List ℕ) → IsTree (Word word) → Sized depth (Word word)
 word_sized depth word h = let e = levels_word word in record { lawful = h; level = omega arith }
 

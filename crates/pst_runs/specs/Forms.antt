@@ -1,4 +1,4 @@
--- The form of an item: its case, and the lists of replies behind it.
+-- The form of an item: its case, and the lists of replies and of times behind it.
 use Rattle.std.specs.Prelude.{◌==◌, ◌&&◌, ◌+◌, ℕ, nat_le, Bool, true, false, if◌then◌else◌, List, [], ◌∷◌, length, Option, Some, None, codes}
 use Rattle.std.specs.List.{list_all}
 use Rattle.std.specs.Str.{bytes_eq}
@@ -90,16 +90,20 @@ case_in m (first ∷ others) suffix =
 abbrev pub case_of : Source → Sections → Option SpelledCase
 case_of m sections = case_in m sections.front sections.suffix
 
--- ---- the lists of replies
+-- ---- the lists of replies and of times
 
 abbrev pub is_node : Option (List Form) → Bool
 is_node None = false
 is_node (Some parts) = true
 
--- a case, and its lists of replies, if it has them
+abbrev pub are_nodes : List Form → Bool
+are_nodes forms = list_all (λ form. is_node (node_of form)) forms
+
+-- a case, and its lists of replies and of times, if it has them
 pub record Parts : Type 0 where
   pub read : SpelledCase
   pub replies : Option (List Form)
+  pub times : Option (List Form)
 
 abbrev pub number_of_parts : Option (List Form) → SpelledCase → ℕ
 number_of_parts None c = length c.branches + 1
@@ -109,26 +113,45 @@ number_of_parts (Some suffix) c = length c.branches + 2
 abbrev pub is_number_of_parts : ℕ → Sections → SpelledCase → Bool
 is_number_of_parts n sections c = n == number_of_parts sections.suffix c
 
--- `(replies (..) (..) ..)`: a list for each part
-abbrev pub with_replies : Form → Sections → SpelledCase → Option Parts
-with_replies form sections c =
+-- a list for each part
+abbrev pub are_reply_lists : List Form → Sections → SpelledCase → Bool
+are_reply_lists lists sections c = is_number_of_parts (length lists) sections c && are_nodes lists
+
+-- a list for each branch
+abbrev pub are_time_lists : Option (List Form) → SpelledCase → Bool
+are_time_lists None c = true
+are_time_lists (Some lists) c = (length lists == length c.branches) && are_nodes lists
+
+-- `(replies (..) (..) ..)`, and the times where they were recorded
+abbrev pub with_replies : Form → Option (List Form) → Sections → SpelledCase → Option Parts
+with_replies form times sections c =
     and_then (section (codes "replies") form) (λ lists.
-    if is_number_of_parts (length lists) sections c && list_all (λ list. is_node (node_of list)) lists
-    then Some (record { read = c; replies = Some lists }) else None)
+    if are_reply_lists lists sections c && are_time_lists times c
+    then Some (record { read = c; replies = Some lists; times = times }) else None)
 
 abbrev pub without_replies : SpelledCase → Option Parts
-without_replies c = Some (record { read = c; replies = None })
+without_replies c = Some (record { read = c; replies = None; times = None })
 
 -- ---- the item
 
 abbrev pub case_parts : Source → List Form → Option Parts
 case_parts m parts = and_then (case_of m (sections_of parts)) without_replies
 
-abbrev pub run_sections : Source → Form → Sections → Option Parts
-run_sections m replies sections = and_then (case_of m sections) (with_replies replies sections)
+abbrev pub run_sections : Source → Form → Option (List Form) → Sections → Option Parts
+run_sections m replies times sections = and_then (case_of m sections) (with_replies replies times sections)
 
+-- the last part is `(replies ..)`
+abbrev pub replied_parts : Source → Option (List Form) → List Form → Option Parts
+replied_parts m times parts = and_then (front_and_last parts) (λ p. run_sections m p.1 times (sections_of p.0))
+
+abbrev pub run_ending : Source → (parts front : List Form) → (times : Option (List Form)) → Option Parts
+run_ending m parts front None = replied_parts m None parts
+run_ending m parts front (Some times) = replied_parts m (Some times) front
+
+-- `(times ..)` may stand behind the replies
 abbrev pub run_parts : Source → List Form → Option Parts
-run_parts m parts = and_then (front_and_last parts) (λ p. run_sections m p.1 (sections_of p.0))
+run_parts m parts =
+    and_then (front_and_last parts) (λ p. run_ending m parts p.0 (section (codes "times") p.1))
 
 abbrev pub item_in : Source → List Form → Option Parts
 item_in m [] = None
@@ -138,6 +161,7 @@ item_in m (first ∷ parts) = and_then (word_of first) (λ head.
     else None)
 
 -- THE TABLE OF ITEMS: `(case (prefix ..) (left ..) (right ..))` and `(case (prefix ..) (branches (..) (..)
--- ..))`, each with `(suffix ..)` as its last part or without it; and `(run .. (replies (..) (..) ..))`
+-- ..))`, each with `(suffix ..)` as its last part or without it; and `(run .. (replies (..) (..) ..))`, with
+-- `(times (..) (..) ..)` as its last part or without it
 unfoldable pub parts_of : Source → Form → Option Parts
 parts_of m form = and_then (node_of form) (item_in m)

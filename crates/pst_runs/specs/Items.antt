@@ -1,4 +1,4 @@
--- Reading runs: the form of an item first, then the faults of its case, then its replies.
+-- Reading runs: the form of an item first, then the faults of its case, then its replies, then its times.
 use Rattle.std.specs.Prelude.{◌+◌, ℕ, if◌then◌else◌, List, [], ◌∷◌, Option, Some, None, Result, Ok, Err}
 use Rattle.pst_case.specs.declared.case.Case.{Case}
 use Rattle.pst_case.specs.declared.shaping.CaseFault.{CaseFault}
@@ -9,6 +9,7 @@ use Rattle.pst_model.specs.declared.model.Source.{Source}
 use Rattle.pst_runs.specs.Forms.{Parts, parts_of}
 use Rattle.pst_runs.specs.Reading.{readable_case, case_fault}
 use Rattle.pst_runs.specs.Replies.{◌>>=◌, then_more, history_of, are_counted}
+use Rattle.pst_runs.specs.Times.{timed_history}
 use Rattle.pst_runs.specs.declared.reader.ItemFault.{ItemFault}
 use Rattle.pst_runs.specs.declared.reader.RunFault.{RunFault}
 use Rattle.pst_runs.specs.declared.reader.RunFaultKind.TheVariants as kind
@@ -20,14 +21,19 @@ use Rattle.pst_sexpr.specs.declared.form.Form.{Form}
 abbrev pub run : Source → Case → Option History → Run
 run m c history = record { shaped = record { model = m; case = c }; history = history }
 
-abbrev pub with_history : Source → Case → Result History ℕ → Result Run ItemFault
-with_history m c (Ok history) = Ok (run m c (Some history))
-with_history m c (Err number) = Err (record { kind = kind.BadReply; command = number })
+abbrev pub with_times : Source → Case → Result History ℕ → Result Run ItemFault
+with_times m c (Ok history) = Ok (run m c (Some history))
+with_times m c (Err number) = Err (record { kind = kind.BadTimes; command = number })
 
-abbrev pub run_of : Source → Case → Option (List Form) → Result Run ItemFault
-run_of m c None = Ok (run m c None)
-run_of m c (Some lists) =
-    if are_counted c lists then with_history m c (history_of m c lists)
+abbrev pub with_history : Source → Case → Option (List Form) → Result History ℕ → Result Run ItemFault
+with_history m c times (Ok history) = with_times m c (timed_history history times)
+with_history m c times (Err number) = Err (record { kind = kind.BadReply; command = number })
+
+-- the run of a case, its lists of replies, and its lists of times
+abbrev pub run_of : Source → Case → (replies times : Option (List Form)) → Result Run ItemFault
+run_of m c None times = Ok (run m c None)
+run_of m c (Some lists) times =
+    if are_counted c lists then with_history m c times (history_of m c lists)
     else Err (record { kind = kind.NotAFit; command = 0 })
 
 abbrev pub of_case : CaseFault → ItemFault
@@ -40,9 +46,10 @@ unless_fault (Some fault) run = Err (of_case fault)
 abbrev pub of_parts : Source → Option Parts → Result Run ItemFault
 of_parts m None = Err (record { kind = kind.BadForm; command = 0 })
 of_parts m (Some parts) =
-    unless_fault (case_fault m parts.read) (run_of m (readable_case parts.read) parts.replies)
+    unless_fault (case_fault m parts.read) (run_of m (readable_case parts.read) parts.replies parts.times)
 
--- the run that a tree spells, or its first fault: BadForm, then that of the case, then NotAFit, then BadReply
+-- the run that a tree spells, or its first fault: BadForm, then that of the case, then NotAFit, then BadReply,
+-- then BadTimes
 unfoldable pub item_of : Source → Form → Result Run ItemFault
 item_of m form = of_parts m (parts_of m form)
 

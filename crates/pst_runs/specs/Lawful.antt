@@ -1,13 +1,15 @@
 -- Runs that may be judged over a model.
 use Rattle.std.specs.Prelude.{◌≡◌, true, List, [], ◌∷◌, IfSome}
 use Rattle.pst_case.specs.Matches.{matches}
+use Rattle.pst_case.specs.Times.{AreTimed}
 use Rattle.pst_case.specs.declared.history.Run.{Run}
 use Rattle.pst_model.specs.declared.model.Source.{Source}
 
--- the case is one of the model, and the history, where there is one, matches the case
+-- the case is one of the model, the history, where there is one, matches the case, and its times fit its calls
 pub record IsLawful (m : Source) (run : Run) : Type 0 where
   pub model : run.shaped.model ≡ m
   pub matching : IfSome run.history (λ h. matches m run.shaped.case h ≡ true)
+  pub timed : IfSome run.history AreTimed
 
 -- each run may be judged
 abbrev pub AreLawful : Source → List Run → Type 0

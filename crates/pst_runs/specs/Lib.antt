@@ -10,6 +10,7 @@ pub mod Forms
 pub mod Commands
 pub mod Reading
 pub mod Replies
+pub mod Times
 pub mod Values
 -- what the contracts within the crate cite
 pub mod Shown

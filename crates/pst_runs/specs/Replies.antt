@@ -89,14 +89,15 @@ listed_or_none (Some form) = listed form
 abbrev pub listed_at : List Form → ℕ → List Form
 listed_at lists n = listed_or_none (slice_get lists n)
 
--- the history that lists of replies spell, or the number of the first command whose tree spells no reply
+-- the history without times that lists of replies spell, or the number of the first command whose tree spells
+-- no reply
 abbrev pub history_of : Source → Case → List Form → Result History ℕ
-history_of m c [] = Ok (record { prefix = []; branches = []; suffix = [] })
+history_of m c [] = Ok (record { prefix = []; branches = []; suffix = []; times = None })
 history_of m c (list ∷ lists) =
     part_replies m 1 c.prefix (listed list) >>= (λ p.
     branch_replies m (length c.prefix) c.branches lists >>= (λ bs.
     part_replies m (before_suffix c + 1) c.suffix (listed_at lists (length c.branches)) >>= (λ s.
-    Ok (record { prefix = p; branches = bs; suffix = s }))))
+    Ok (record { prefix = p; branches = bs; suffix = s; times = None }))))
 
 -- ---- as many replies as commands
 

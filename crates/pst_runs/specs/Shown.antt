@@ -5,7 +5,8 @@ use Rattle.pst_runs.specs.declared.parts.ItemParts.{ItemParts}
 use Rattle.pst_runs.specs.declared.parts.Sections.{Sections}
 
 abbrev pub shown : ItemParts → spec.Parts
-shown parts = record { read = parts.read; replies = option_copied parts.replies }
+shown parts =
+    record { read = parts.read; replies = option_copied parts.replies; times = option_copied parts.times }
 
 abbrev pub shown_option : Option ItemParts → Option spec.Parts
 shown_option None = None

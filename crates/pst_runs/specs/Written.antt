@@ -1,9 +1,9 @@
--- The tree that is written for a run: integers and variables in their shortest form, two branches as `left`
--- and `right`.
+-- The tree that is written for a run: numbers in their shortest form, two branches as `left` and `right`.
 use Rattle.std.specs.Prelude.{ℕ, Bool, true, false, List, [], ◌∷◌, ◌++◌, map, Option, Some, None, codes, decimal}
 use Rattle.std.specs.Fmt.{signed_decimal}
 use Rattle.pst_case.specs.declared.case.Case.{Case}
 use Rattle.pst_case.specs.declared.case.Command.{Command}
+use Rattle.pst_case.specs.declared.history.CallTime.{CallTime}
 use Rattle.pst_case.specs.declared.history.History.{History}
 use Rattle.pst_case.specs.declared.history.Reply.{Reply}
 use Rattle.pst_case.specs.declared.history.Reply.TheVariants as reply
@@ -113,11 +113,30 @@ abbrev pub replies_form : History → Form
 replies_form h =
     headed (codes "replies") (list_form h.prefix ∷ map list_form h.branches ++ suffix_lists h.suffix)
 
+-- ---- times
+
+-- `-` if the call is not known to have completed
+abbrev pub completion_word : Option ℕ → List ℕ
+completion_word None = codes "-"
+completion_word (Some completed) = decimal completed
+
+abbrev pub time_form : CallTime → Form
+time_form t = Node (Word (decimal t.invoked) ∷ Word (completion_word t.completed) ∷ [])
+
+-- the times of a branch
+abbrev pub times_form : List CallTime → Form
+times_form ts = Node (map time_form ts)
+
+-- the times of each branch, where they were recorded
+abbrev pub times_forms : Option (List (List CallTime)) → List Form
+times_forms None = []
+times_forms (Some times) = headed (codes "times") (map times_form times) ∷ []
+
 -- ---- items
 
 abbrev pub item_form : Source → Case → Option History → Form
 item_form m c None = headed (codes "case") (case_forms m c)
-item_form m c (Some h) = headed (codes "run") (case_forms m c ++ replies_form h ∷ [])
+item_form m c (Some h) = headed (codes "run") (case_forms m c ++ replies_form h ∷ times_forms h.times)
 
 -- the tree of a run: a `case` where it has no history, and else a `run`
 abbrev pub run_form : Source → Run → Form

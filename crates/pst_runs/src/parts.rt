@@ -1,6 +1,5 @@
-//! Cases that trees spell, with their lists of replies.
+//! Cases that trees spell, with their lists of replies and of times.
 ghost use Rattle.std.specs.Prelude.{◌≡◌, ◌++◌, IfOk, MatchOption, length, option_copied};
-ghost use Rattle.std.specs.List.{list_all};
 ghost use Rattle.pst_runs.specs.Forms as spec;
 ghost use Rattle.pst_runs.specs.Shown.{shown_option, shown_sections};
 ghost use Rattle.pst_sexpr.specs.Parts.{node_of};
@@ -12,11 +11,12 @@ use pst_sexpr::{Form, node_of, word_of};
 use pst_value::Items;
 use std::alloc::{AllocError, Global};
 
-/// A case as trees spell it, and its lists of replies, if it has them.
+/// A case as trees spell it, and its lists of replies and of times, if it has them.
 #[derive(Drop)]
 pub struct ItemParts<'a> {
     pub read: SpelledCase,
     pub replies: Option<&'a [Form]>,
+    pub times: Option<&'a [Form]>,
 }
 
 /// The prefix and the branches of a case, and the commands of its suffix, if there is one.
@@ -214,23 +214,42 @@ fn has_reply_list_for_each_part(lists: usize, sections: &Sections<'_>, case: &Sp
 }
 
 fn are_nodes(forms: &[Form]) -> bool
-    ensures { result ≡ list_all (λ form. spec.is_node (node_of form)) forms.now }
+    ensures { result ≡ spec.are_nodes forms.now }
 {
     forms.iter().all(|form| is_node(form))
 }
 
+fn are_reply_lists(lists: &[Form], sections: &Sections<'_>, case: &SpelledCase) -> bool
+    ensures { result ≡ spec.are_reply_lists lists.now (shown_sections sections.now) case.now }
+{
+    has_reply_list_for_each_part(lists.len(), sections, case) && are_nodes(lists)
+}
+
+/// Returns whether there is a list of times for each branch, if there are such lists.
+fn are_time_lists(times: Option<&[Form]>, case: &SpelledCase) -> bool
+    ensures { result ≡ spec.are_time_lists (option_copied times.entry) case.now }
+{
+    match times {
+        Some(lists) => lists.len() == case.branches.as_slice().len() && are_nodes(lists),
+        None => true,
+    }
+}
+
 fn item_parts_with_replies<'a>(
     form: &'a Form,
+    times: Option<&'a [Form]>,
     sections: &Sections<'_>,
     read: SpelledCase,
 ) -> Option<ItemParts<'a>>
-    ensures { shown_option result ≡ spec.with_replies form.now (shown_sections sections.now) read }
+    ensures { shown_option result ≡
+        spec.with_replies form.now (option_copied times.entry) (shown_sections sections.now) read }
 {
     let lists = section_parts("replies", form)?;
-    if has_reply_list_for_each_part(lists.len(), sections, &read) && are_nodes(lists) {
+    if are_reply_lists(lists, sections, &read) && are_time_lists(times, &read) {
         Some(ItemParts {
             read,
             replies: Some(lists),
+            times,
         })
     } else {
         None
@@ -250,7 +269,28 @@ fn read_case_item_parts<'a>(
     Ok(Some(ItemParts {
         read,
         replies: None,
+        times: None,
     }))
+}
+
+/// Returns the parts of a run whose last tree is `(replies ..)`.
+fn read_replied_parts<'a>(
+    alloc: Global,
+    typed: &Typed,
+    times: Option<&'a [Form]>,
+    parts: &'a [Form],
+) -> Result<Option<ItemParts<'a>>, AllocError>
+    ensures { IfOk result (λ item.
+        shown_option item ≡ spec.replied_parts typed.now (option_copied times.entry) parts.now) }
+{
+    let Some((front, replies)) = split_last_tree(parts) else {
+        return Ok(None);
+    };
+    let sections = split_off_suffix_section(front);
+    let Some(read) = read_spelled_case(alloc, typed, &sections)? else {
+        return Ok(None);
+    };
+    Ok(item_parts_with_replies(replies, times, &sections, read))
 }
 
 fn read_run_item_parts<'a>(
@@ -260,17 +300,16 @@ fn read_run_item_parts<'a>(
 ) -> Result<Option<ItemParts<'a>>, AllocError>
     ensures { IfOk result (λ item. shown_option item ≡ spec.run_parts typed.now parts.now) }
 {
-    let Some((front, replies)) = split_last_tree(parts) else {
+    let Some((front, last)) = split_last_tree(parts) else {
         return Ok(None);
     };
-    let sections = split_off_suffix_section(front);
-    let Some(read) = read_spelled_case(alloc, typed, &sections)? else {
-        return Ok(None);
-    };
-    Ok(item_parts_with_replies(replies, &sections, read))
+    match section_parts("times", last) {
+        Some(times) => read_replied_parts(alloc, typed, Some(times), front),
+        None => read_replied_parts(alloc, typed, None, parts),
+    }
 }
 
-/// Returns the case of an item with its lists of replies. `None` if the tree does not have the form of an item.
+/// Returns the case of an item with its lists of replies and of times. `None` if the tree does not have the form of an item.
 #[tactic(auto, unfolding(crate::specs::Forms::parts_of))]
 pub fn read_item_parts<'a>(
     alloc: Global,

@@ -1,13 +1,16 @@
 //! Reading runs, and why a run is refused.
-ghost use Rattle.std.specs.Prelude.{◌≡◌, ◌⊎◌, IfOk, IfErr, Ok, Err, option_copied};
+ghost use Rattle.std.specs.Prelude.{◌≡◌, ◌⊎◌, ◌<◌, ◌+◌, ◌^◌, IfOk, IfErr, Ok, Err, length, option_copied};
+ghost use Rattle.pst_case.specs.Shape.{joined};
 ghost use Rattle.pst_runs.specs.FaultName.{fault_name};
 ghost use Rattle.pst_runs.specs.Items as spec;
 ghost use Rattle.pst_runs.specs.Lawful.{AreLawful};
+ghost use Rattle.pst_runs.specs.Times.{timed_history};
 
 use crate::parts::{ItemParts, read_item_parts};
 use crate::reading::shape_spelled_case;
 use crate::replies::{read_history, reply_counts_match};
-use pst_case::{CaseFaultKind, Run, Shaped};
+use crate::times::with_read_times;
+use pst_case::{CaseFaultKind, History, Run, Shaped};
 use pst_model::Typed;
 use pst_sexpr::{Form, Tree};
 use std::alloc::{AllocError, AllocFailed, Global};
@@ -26,6 +29,8 @@ pub enum RunFaultKind {
     NotAFit,
     /// The tree is neither a case nor a run.
     BadForm,
+    /// A branch has another number of times than of calls, or a time is none, or it does not fit the time before it.
+    BadTimes,
 }
 
 impl RunFaultKind {
@@ -38,6 +43,7 @@ impl RunFaultKind {
             RunFaultKind::BadReply => "BadReply",
             RunFaultKind::NotAFit => "NotAFit",
             RunFaultKind::BadForm => "BadForm",
+            RunFaultKind::BadTimes => "BadTimes",
         }
     }
 }
@@ -104,16 +110,41 @@ impl<T: Drop> From<AllocFailed<T>> for RunFault {
     }
 }
 
-/// Returns the run of a shaped case and its lists of replies, or its first fault.
+/// Returns the run of a shaped case with `history` and the times that lists of times spell, or its first fault.
+fn run_of_shaped_case_and_history(
+    alloc: Global,
+    shaped: Shaped,
+    history: History,
+    times: Option<&[Form]>,
+) -> Result<Result<Run, ItemFault>, AllocError>
+    requires { length history.prefix + length (joined history.branches) + 1 < 2 ^ 32 }
+    ensures { IfOk result (λ run. run ≡
+        spec.with_times shaped.model shaped.case (timed_history history (option_copied times.entry))) }
+{
+    match with_read_times(alloc, history, times)? {
+        Ok(history) => {
+            let history = Some(history);
+            Ok(Ok(Run { shaped, history }))
+        }
+        Err(command) => Ok(Err(ItemFault {
+            kind: RunFaultKind::BadTimes,
+            command,
+        })),
+    }
+}
+
+/// Returns the run of a shaped case and its lists of replies and of times, or its first fault.
 #[tactic(auto, using(crate::proofs::Limits::limits))]
 fn run_of_shaped_case_and_replies(
     alloc: Global,
     typed: &Typed,
     shaped: Shaped,
     replies: Option<&[Form]>,
+    times: Option<&[Form]>,
 ) -> Result<Result<Run, ItemFault>, AllocError>
     requires { shaped.model ≡ typed.now }
-    ensures { IfOk result (λ run. run ≡ spec.run_of typed.now shaped.case (option_copied replies.entry)) }
+    ensures { IfOk result (λ run. run ≡
+        spec.run_of typed.now shaped.case (option_copied replies.entry) (option_copied times.entry)) }
 {
     let Some(lists) = replies else {
         let history = None;
@@ -126,10 +157,7 @@ fn run_of_shaped_case_and_replies(
         }));
     }
     match read_history(alloc, typed, shaped.case(), lists)? {
-        Ok(history) => {
-            let history = Some(history);
-            Ok(Ok(Run { shaped, history }))
-        }
+        Ok(history) => run_of_shaped_case_and_history(alloc, shaped, history, times),
         Err(command) => Ok(Err(ItemFault {
             kind: RunFaultKind::BadReply,
             command,
@@ -148,9 +176,13 @@ fn read_run(alloc: Global, typed: &Typed, form: &Form) -> Result<Result<Run, Ite
             command: 0,
         }));
     };
-    let ItemParts { read, replies } = parts;
+    let ItemParts {
+        read,
+        replies,
+        times,
+    } = parts;
     match shape_spelled_case(alloc, typed, read)? {
-        Ok(shaped) => run_of_shaped_case_and_replies(alloc, typed, shaped, replies),
+        Ok(shaped) => run_of_shaped_case_and_replies(alloc, typed, shaped, replies, times),
         Err(fault) => Ok(Err(ItemFault {
             kind: RunFaultKind::Case(fault.kind),
             command: fault.command,
@@ -161,7 +193,7 @@ fn read_run(alloc: Global, typed: &Typed, form: &Form) -> Result<Result<Run, Ite
 /// Reads the runs that trees spell: `case` items without a history, and `run` items with one.
 ///
 /// The fault is that of the first refused item, numbered from 1. The reader checks each item in this order: its form,
-/// its limits, its commands by their numbers, the counts of its replies, and each reply. The kind is `NoMemory` if an
+/// its limits, its commands by their numbers, the counts of its replies, each reply, and its times. The kind is `NoMemory` if an
 /// allocation fails.
 #[tactic(auto, using(crate::proofs::Behind::behind))]
 pub fn read_runs(alloc: Global, typed: &Typed, trees: &[Tree]) -> Result<Vec<Run>, RunFault>

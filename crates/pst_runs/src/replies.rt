@@ -13,7 +13,7 @@ use pst_value::{Items, Value};
 use std::alloc::{AllocError, Global};
 
 /// Returns the trees of a list, or no trees if `form` is no list.
-fn trees_of_list_or_empty(form: &Form) -> &[Form]
+pub fn trees_of_list_or_empty(form: &Form) -> &[Form]
     ensures { result.now ≡ spec.listed form.now }
 {
     match node_of(form) {
@@ -158,7 +158,7 @@ fn read_remaining_branch_replies(
     }
 }
 
-/// Returns the history that lists of replies spell, or the number of the first command whose tree spells no reply.
+/// Returns the history without times that lists of replies spell, or the number of the first command whose tree spells no reply.
 pub fn read_history(
     alloc: Global,
     typed: &Typed,
@@ -173,6 +173,7 @@ pub fn read_history(
             prefix: Items::new(alloc),
             branches: Items::new(alloc),
             suffix: Items::new(alloc),
+            times: None,
         }));
     };
     let branches = case.branches.as_slice();
@@ -196,6 +197,7 @@ pub fn read_history(
             prefix,
             branches: branch_replies,
             suffix,
+            times: None,
         })),
         Err(number) => Ok(Err(number)),
     }

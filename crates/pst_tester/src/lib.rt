@@ -7,8 +7,8 @@
 
 pub use pst_campaign::{CampaignFault, Unwatched, Watch, campaign};
 pub use pst_cli::{
-    ChosenItems, ExplainOptions, ExplanationForm, Status, campaign_text, check_text, explain_text,
-    judge_text,
+    CallOrder, ChosenItems, ExplainOptions, ExplanationForm, Status, campaign_text, check_text,
+    explain_text, judge_text,
 };
 pub use pst_report::report;
 pub use pst_sexpr::{Out, Sink};

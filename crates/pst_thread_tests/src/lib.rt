@@ -16,4 +16,6 @@ mod systems;
 #[cfg(test)]
 mod test_systems;
 #[cfg(test)]
+mod timing;
+#[cfg(test)]
 mod trials;

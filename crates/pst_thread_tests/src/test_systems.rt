@@ -81,6 +81,55 @@ impl System for MeetingFlags {
     }
 }
 
+/// `meet 2` passes a baton, and `meet 3` waits for it, yielding, up to 10,000,000 looks. All answer `true`.
+#[derive(Drop)]
+pub struct Relay {
+    is_passed: AtomicBool,
+}
+
+impl Relay {
+    /// The baton is not passed.
+    pub fn new() -> Relay {
+        Relay {
+            is_passed: AtomicBool::new(false),
+        }
+    }
+
+    /// Waits until the baton is passed.
+    fn wait_for_baton(&self) {
+        for _ in 0..10_000_000u32 {
+            if self.is_passed.load(Ordering::SeqCst) {
+                return;
+            }
+            thread::yield_now();
+        }
+    }
+}
+
+impl System for Relay {
+    ghost use Rattle.std.specs.Prelude.{⊤};
+
+    ghost answers = { λ _ _ _. ⊤ };
+
+    ghost fails = { λ _ _ _. ⊤ };
+
+    ghost reset_fails = { λ _ _. ⊥ };
+
+    fn reset(&mut self) -> Result<(), CallFault> {
+        self.is_passed.store(false, Ordering::SeqCst);
+        Ok(())
+    }
+
+    fn call(&self, call: &RealCall) -> Result<Value, CallFault> {
+        match call.args.as_slice() {
+            [Value::Int(2)] => self.is_passed.store(true, Ordering::SeqCst),
+            [Value::Int(3)] => self.wait_for_baton(),
+            _ => {}
+        }
+        Ok(Value::Bool(true))
+    }
+}
+
 /// Answers, counting on over resets, variable 1, then a reference to 1, then a text of 65,537 bytes.
 #[derive(Drop)]
 pub struct CountedOddAnswers {

@@ -4,6 +4,7 @@ use Rattle.pst_case.specs.OfModel.{OfModel}
 use Rattle.pst_case.specs.Shape.{joined}
 use Rattle.pst_case.specs.declared.case.Case.{Case}
 use Rattle.pst_case.specs.declared.history.History.{History}
+use Rattle.pst_judge.specs.declared.by_order.CallOrder.{CallOrder}
 use Rattle.pst_model.specs.declared.model.Source.{Source}
 use Rattle.pst_shrink.proofs.Moving.{shrunk_moves}
 use Rattle.pst_shrink.specs.Weight.{weight}
@@ -19,11 +20,11 @@ use Rattle.pst_trial.specs.declared.record.TrialOutcome.TheVariants.{GenFaulted,
 use Rattle.pst_trial.specs.declared.record.JudgedRun.{JudgedRun}
 
 -- one explained run more
-pub explained_more : (D : Histories) (m : Source) (c : Case) (rs : List JudgedRun) (r : JudgedRun)
-    → AreExplained D m c rs → IsJudgedRun D m c r → is_explained r.verdict ≡ true
-    → AreExplained D m c (rs ++ r ∷ [])
-explained_more D m c [] r all judged e = (judged, e, tt)
-explained_more D m c (x ∷ rs) r all judged e = (all.0, all.1, explained_more D m c rs r all.2 judged e)
+pub explained_more : (D : Histories) (m : Source) (order : CallOrder) (c : Case) (rs : List JudgedRun) (r : JudgedRun)
+    → AreExplained D m order c rs → IsJudgedRun D m order c r → is_explained r.verdict ≡ true
+    → AreExplained D m order c (rs ++ r ∷ [])
+explained_more D m order c [] r all judged e = (judged, e, tt)
+explained_more D m order c (x ∷ rs) r all judged e = (all.0, all.1, explained_more D m order c rs r all.2 judged e)
 
 -- a case within the limits weighs little
 pub room : (c : Case) → length c.prefix ≤ 64 → length (joined c.branches) ≤ 16 → length c.suffix ≤ 8
@@ -36,7 +37,7 @@ module _ (may_drive : Histories) (p : PlanView) (k : ℕ) where
   tried_sound c (GenFaulted place) generated h = absurd h
   tried_sound c (Passed d rs) generated h = (
     subst (λ (x : Case). IsTrialCase p k (Ok x)) (sym h.0) generated,
-    subst (λ (x : Case). IsAnswer may_drive p.model p.settings.repeats x (Held rs)) (sym h.0) h.1,
+    subst (λ (x : Case). IsAnswer may_drive p.model p.settings.order p.settings.repeats x (Held rs)) (sym h.0) h.1,
   )
   tried_sound c (Failed earlier s) generated h = (c, generated, h)
 
@@ -47,15 +48,15 @@ module _ (D E : Histories) (p : PlanView)
       → IsFailure D p c earlier s → IsFailure E p c earlier s
   failure_moves_in c earlier s f = record {
     run = f.run;
-    broke = answer_moves_in D E p.model to p.settings.repeats c (Broke earlier f.run) f.broke;
+    broke = answer_moves_in D E p.model p.settings.order to p.settings.repeats c (Broke earlier f.run) f.broke;
     driven = f.driven;
-    shrunk = shrunk_moves _ _ (λ d o. answer_moves_in D E p.model to p.settings.repeats d o) _ _ _ _ _ f.shrunk;
+    shrunk = shrunk_moves _ _ (λ d o. answer_moves_in D E p.model p.settings.order to p.settings.repeats d o) _ _ _ _ _ f.shrunk;
   }
 
   pub sound_moves_in : (k : ℕ) (o : TrialOutcome) → IsSoundBy D p k o → IsSoundBy E p k o
   sound_moves_in k (GenFaulted place) h = h
   sound_moves_in k (Passed c rs) h =
-      (h.0, answer_moves_in D E p.model to p.settings.repeats c (Held rs) h.1)
+      (h.0, answer_moves_in D E p.model p.settings.order to p.settings.repeats c (Held rs) h.1)
   sound_moves_in k (Failed earlier s) h = (h.0, h.1, failure_moves_in h.0 earlier s h.2)
 
 module _ (D E : Histories) (to : (v : OfModel) (h : History) → D v h → E v h) (p : PlanView) where
@@ -65,7 +66,7 @@ module _ (D E : Histories) (to : (v : OfModel) (h : History) → D v h → E v h
 
   pub tried_moves : (c : Case) (o : TrialOutcome) → IsTried D p c o → IsTried E p c o
   tried_moves c (GenFaulted place) h = h
-  tried_moves c (Passed d rs) h = (h.0, answer_moves D E to p.model p.settings.repeats c (Held rs) h.1)
+  tried_moves c (Passed d rs) h = (h.0, answer_moves D E to p.model p.settings.order p.settings.repeats c (Held rs) h.1)
   tried_moves c (Failed earlier s) h = failure_moves c earlier s h
 
   pub sound_moves : (k : ℕ) (o : TrialOutcome) → IsSoundBy D p k o → IsSoundBy E p k o

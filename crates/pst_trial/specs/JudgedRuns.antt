@@ -2,11 +2,13 @@
 use Rattle.std.specs.Prelude.{◌≡◌, ◌⊎◌, ℕ, ◌<◌, Bool, true, false, List, [], ◌∷◌, length}
 use Rattle.pst_case.specs.Matches.{matches}
 use Rattle.pst_case.specs.OfModel.{OfModel}
+use Rattle.pst_case.specs.Times.{AreTimed}
 use Rattle.pst_case.specs.declared.case.Case.{Case}
 use Rattle.pst_driver.specs.declared.driving.DriveFault.{DriveFault}
 use Rattle.pst_driver.specs.declared.driving.DriveFault.TheVariants.{NoMemory}
 use Rattle.pst_gen.specs.Accepted.{IsAccepted}
-use Rattle.pst_judge.specs.Verdict.{IsVerdict}
+use Rattle.pst_judge.specs.ByOrder.{IsVerdictBy}
+use Rattle.pst_judge.specs.declared.by_order.CallOrder.{CallOrder}
 use Rattle.pst_judge.specs.declared.judgement.Verdict.{Verdict}
 use Rattle.pst_judge.specs.declared.judgement.Verdict.TheVariants.{Explained, Faulted, Unexplained, Broken}
 use Rattle.pst_model.specs.declared.model.Source.{Source}
@@ -22,12 +24,13 @@ is_explained (Faulted place) = false
 is_explained (Unexplained far) = false
 is_explained (Broken number) = false
 
-module _ (may_drive : Histories) (m : Source) where
-  -- a run of a case: its history matches the case and may be recorded of it, and its verdict is that of this
-  -- history
+module _ (may_drive : Histories) (m : Source) (order : CallOrder) where
+  -- a run of a case: its history matches the case and may be recorded of it, its times fit its calls, and its
+  -- verdict is that of this history by the order
   pub record IsJudgedRun (c : Case) (r : JudgedRun) : Type 0 where
     pub matching : matches m c r.history ≡ true
-    pub judged : IsVerdict m c r.history r.verdict
+    pub timed : AreTimed r.history
+    pub judged : IsVerdictBy order m c r.history r.verdict
     pub driven : may_drive (record { model = m; case = c }) r.history
 
   -- runs of a case that are all explained

@@ -1,5 +1,6 @@
 -- The ranges of a plan's settings.
 use Rattle.std.specs.Prelude.{◌≤◌}
+use Rattle.pst_judge.specs.declared.by_order.CallOrder.TheVariants.{Any}
 use Rattle.pst_trial.specs.declared.plan.Settings.{Settings}
 
 -- each setting is in its range
@@ -17,4 +18,13 @@ pub record AreInRange (s : Settings) : Type 0 where
 -- the settings where none are given
 abbrev pub default_settings : Settings
 default_settings =
-    record { seed = 0; trials = 100; commands = 16; branches = 2; suffix = 0; repeats = 5; limit = 1000 }
+    record {
+      seed = 0;
+      trials = 100;
+      commands = 16;
+      branches = 2;
+      suffix = 0;
+      repeats = 5;
+      limit = 1000;
+      order = Any;
+    }

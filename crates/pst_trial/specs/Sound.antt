@@ -36,22 +36,22 @@ module _ (may_drive : Histories) (p : PlanView) where
   -- driven.
   pub record IsFailure (c : Case) (earlier : List JudgedRun) (s : Shrunk JudgedRun) : Type 0 where
     pub run : JudgedRun
-    pub broke : IsAnswer may_drive p.model p.settings.repeats c (Broke earlier run)
+    pub broke : IsAnswer may_drive p.model p.settings.order p.settings.repeats c (Broke earlier run)
     pub driven : ℕ
-    pub shrunk : IsShrunk (IsAnswer may_drive p.model p.settings.repeats)
+    pub shrunk : IsShrunk (IsAnswer may_drive p.model p.settings.order p.settings.repeats)
         (record { case = c; history = run }) 0 driven p.settings.limit s
 
   -- what driving, judging and shrinking a case came to
   abbrev pub IsTried : Case → TrialOutcome → Type 0
   IsTried c (GenFaulted place) = ⊥
-  IsTried c (Passed case runs) = (case ≡ c) × IsAnswer may_drive p.model p.settings.repeats c (Held runs)
+  IsTried c (Passed case runs) = (case ≡ c) × IsAnswer may_drive p.model p.settings.order p.settings.repeats c (Held runs)
   IsTried c (Failed earlier shrunk) = IsFailure c earlier shrunk
 
   -- what the trial of a number came to: its words gave a fault, or a case that came to this
   abbrev pub IsSoundBy : (number : ℕ) → TrialOutcome → Type 0
   IsSoundBy number (GenFaulted place) = IsTrialCase p number (Err place)
   IsSoundBy number (Passed c runs) =
-      IsTrialCase p number (Ok c) × IsAnswer may_drive p.model p.settings.repeats c (Held runs)
+      IsTrialCase p number (Ok c) × IsAnswer may_drive p.model p.settings.order p.settings.repeats c (Held runs)
   IsSoundBy number (Failed earlier shrunk) =
       (c : Case) × IsTrialCase p number (Ok c) × IsFailure c earlier shrunk
 

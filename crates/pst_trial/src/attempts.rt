@@ -9,12 +9,12 @@ use crate::record::JudgedRun;
 use pst_case::Case;
 use pst_driver::DriveFault;
 use pst_gen::valid_case_if_accepted;
-use pst_judge::{Valid, verdict};
+use pst_judge::{Valid, verdict_by};
 use pst_shrink::{Attempt, AttemptOutcome};
 use pst_value::Items;
 use std::alloc::Global;
 
-/// Drives a valid case, and judges what was recorded.
+/// Drives a valid case, and judges what was recorded by the order of the plan's settings.
 fn drive_and_judge_case_once<D: Driver>(
     alloc: Global,
     plan: &Plan,
@@ -22,7 +22,8 @@ fn drive_and_judge_case_once<D: Driver>(
     valid: &Valid,
 ) -> Result<JudgedRun, DriveFault>
     requires model { valid.now.model ≡ plan.now.model }
-    ensures run { IfOk result (IsJudgedRun (D.may_drive driver.old) plan.now.model valid.now.case) }
+    ensures run { IfOk result (IsJudgedRun (D.may_drive driver.old) plan.now.model plan.now.settings.order
+        valid.now.case) }
     ensures fault { IfErr result (MayFail (D.may_fail driver.old)) }
     ensures keeps { D.keeps driver.old driver.new }
 {
@@ -30,7 +31,8 @@ fn drive_and_judge_case_once<D: Driver>(
         Ok(history) => history,
         Err(fault) => return Err(fault),
     };
-    let verdict = verdict(plan.compiled(), alloc, valid.shaped(), &history)?;
+    let order = plan.settings().order;
+    let verdict = verdict_by(plan.compiled(), order, alloc, valid.shaped(), &history)?;
     Ok(JudgedRun { history, verdict })
 }
 
@@ -44,7 +46,8 @@ pub(crate) fn drive_and_judge_case_while_explained<D: Driver>(
 ) -> Result<AttemptOutcome<JudgedRun>, DriveFault>
     requires model { valid.now.model ≡ plan.now.model }
     ensures answer { IfOk result
-        (IsAnswer (D.may_drive driver.old) plan.now.model plan.now.settings.repeats valid.now.case) }
+        (IsAnswer (D.may_drive driver.old) plan.now.model plan.now.settings.order
+        plan.now.settings.repeats valid.now.case) }
     ensures driven { IfOk result (λ o. drives o ≡ 1) }
     ensures fault { IfErr result (MayFail (D.may_fail driver.old)) }
     ensures keeps { D.keeps driver.old driver.new }
@@ -86,7 +89,8 @@ impl<'a, D: Driver> Attempt for ShrinkAttempts<'a, D> {
     type Fault = DriveFault;
 
     ghost answers = { λ a c o.
-        IsAnswer (D.may_drive a.driver.now) a.plan.now.model a.plan.now.settings.repeats c o };
+        IsAnswer (D.may_drive a.driver.now) a.plan.now.model a.plan.now.settings.order
+        a.plan.now.settings.repeats c o };
 
     ghost fails = { λ a f. MayFail (D.may_fail a.driver.now) f };
 

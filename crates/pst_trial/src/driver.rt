@@ -1,6 +1,7 @@
 //! What drives the cases of a trial.
 ghost use Rattle.std.specs.Prelude.{◌≡◌, true, IfOk, IfErr};
 ghost use Rattle.pst_case.specs.Matches.{matches};
+ghost use Rattle.pst_case.specs.Times.{AreTimed};
 
 use pst_case::History;
 use pst_driver::DriveFault;
@@ -10,8 +11,8 @@ use std::alloc::Global;
 
 /// Drives valid cases and records their histories, such as with threads on a system.
 ///
-/// Each implementation names the histories and the faults that it may return. Only one more thing is known: a
-/// history matches its case.
+/// Each implementation names the histories and the faults that it may return. Two more things are known: a history
+/// matches its case, and its times, if it has any, fit its calls.
 pub trait Driver {
     ghost use Rattle.pst_case.specs.OfModel.{OfModel};
     ghost use Rattle.pst_case.specs.declared.history.History.{History};
@@ -31,6 +32,7 @@ pub trait Driver {
     fn drive(&mut self, alloc: Global, typed: &Typed, valid: &Valid) -> Result<History, DriveFault>
         requires model { valid.now.model ≡ typed.now }
         ensures matches { IfOk result (λ h. matches typed.now valid.now.case h ≡ true) }
+        ensures timed { IfOk result AreTimed }
         ensures driven { IfOk result (λ h. may_drive self.old valid.now h) }
         ensures fault { IfErr result (λ f. may_fail self.old valid.now f) }
         ensures keeps { keeps self.old self.new };

@@ -15,14 +15,14 @@ mod shrinking;
 mod threads;
 mod trials;
 
-pub use driver::Driver;
 pub use plan::{
     MAX_BRANCHES, MAX_COMMANDS, MAX_LIMIT, MAX_REPEATS, MAX_SUFFIX, MAX_TRIALS, Plan, Settings,
 };
 pub use pst_driver::DriveFault as TrialFault;
+pub use pst_judge::CallOrder;
 pub use pst_shrink::FailingCase;
 pub use record::{JudgedRun, Record, TrialOutcome};
 pub use sharing::prove_records_are_send_and_sync;
 pub use shrinking::ShrinkProgress;
-pub use threads::{CrewDriver, ThreadDriver, run_trial_with_crew, run_trial_with_progress, trial};
-pub use trials::{generate_trial_case, run_trial_with_driver};
+pub use threads::{run_trial_with_crew, run_trial_with_progress, trial};
+pub use trials::generate_trial_case;

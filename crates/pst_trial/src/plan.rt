@@ -3,6 +3,7 @@ ghost use Rattle.std.specs.Prelude.{◌≡◌, MatchResult, ◌↔◌, IsTrue};
 ghost use Rattle.pst_trial.specs.Settings.{AreInRange};
 
 use pst_compile::{Compiled, compile};
+use pst_judge::CallOrder;
 use pst_model::Typed;
 use std::alloc::{AllocError, Global};
 use std::marker::Model;
@@ -103,6 +104,9 @@ pub struct Settings {
     pub repeats: u32,
     /// The maximum number of cases that are driven while one is shrunk, at most 10,000.
     pub limit: u32,
+    /// Which interleavings may explain a history, by default any. With `CallOrder::Time` each drive records the times of
+    /// its calls.
+    pub order: CallOrder,
 }
 
 impl Default for Settings {
@@ -120,6 +124,7 @@ impl Default for Settings {
             suffix: 0,
             repeats: 5,
             limit: 1_000,
+            order: CallOrder::Any,
         }
     }
 }

@@ -13,8 +13,8 @@ use pst_value::Items;
 use std::marker::Model;
 use std::sync::Arc;
 
-/// The result of a trial of a plan. Only `run_trial_with_driver` makes one, and it is sound by its data
-/// alone: no system is named. Contracts see it as the plan, the number and the outcome.
+/// The result of a trial of a plan. Only a trial makes one, and it is sound by its data alone: no system is named.
+/// Contracts see it as the plan, the number and the outcome.
 #[derive(Drop)]
 pub struct Record {
     plan: Arc<Plan>,

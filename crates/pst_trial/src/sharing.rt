@@ -4,6 +4,7 @@ ghost use Rattle.std.specs.Thread.{IsSend, IsSync};
 ghost use Rattle.std.specs.contracts.option.Option.{the_row as option_row};
 ghost use Rattle.pst_case.specs.contracts.case.Case.{the_row as case_row};
 ghost use Rattle.pst_eval.specs.contracts.callbacks.FaultPlace.{the_row as place_row};
+ghost use Rattle.pst_model.specs.contracts.model.Typed.{the_row as typed_row};
 ghost use Rattle.pst_value.specs.contracts.items.Items.{the_row as items_row};
 ghost use Rattle.pst_shrink.specs.contracts.shrinking.Shrunk.{the_row as shrunk_row};
 ghost use Rattle.pst_shrink.specs.contracts.shrinking.FailingCase.{the_row as taken_row};
@@ -12,13 +13,14 @@ ghost use Rattle.pst_trial.specs.contracts.record.TrialOutcome.{the_row as outco
 ghost use Rattle.pst_trial.specs.contracts.plan.Plan.{the_row as plan_row};
 ghost use Rattle.pst_trial.specs.contracts.record.Record.{the_row as record_row};
 
-use crate::plan::Plan;
+use crate::plan::{Plan, Settings};
 use crate::record::JudgedRun;
 use pst_case::Case;
 use pst_compile::Compiled;
 use pst_eval::FaultPlace;
+use pst_judge::CallOrder;
 use pst_machine::Code;
-use pst_model::Typed;
+use pst_model::{Source, Typed};
 use pst_shrink::FailingCase;
 use pst_value::Items;
 
@@ -32,17 +34,31 @@ fn prove_sync<T: Sync>()
     ensures { IsSync T.row }
 {}
 
+/// Models may be sent to threads, and shared by them.
+fn prove_models_are_send_and_sync()
+    ensures sent { IsSend typed_row }
+    ensures shared { IsSync typed_row }
+{
+    prove_send::<Source>();
+    prove_sync::<Source>();
+    prove_send::<Typed>();
+    prove_sync::<Typed>()
+}
+
 /// Plans may be sent to threads, and shared by them.
 fn prove_plans_are_send_and_sync()
     ensures sent { IsSend plan_row }
     ensures shared { IsSync plan_row }
 {
-    prove_send::<Typed>();
-    prove_sync::<Typed>();
+    prove_models_are_send_and_sync();
     prove_send::<Code>();
     prove_sync::<Code>();
     prove_send::<Compiled>();
     prove_sync::<Compiled>();
+    prove_send::<CallOrder>();
+    prove_sync::<CallOrder>();
+    prove_send::<Settings>();
+    prove_sync::<Settings>();
     prove_send::<Plan>();
     prove_sync::<Plan>()
 }

@@ -13,8 +13,10 @@ use crate::record::Record;
 use crate::shrinking::ShrinkProgress;
 use crate::trials::run_trial_with_driver;
 use pst_case::History;
-use pst_driver::{Crew, DriveFault, Relations, Subject, drive_case_with_crew_and_check, run};
-use pst_judge::Valid;
+use pst_driver::{
+    Crew, DriveFault, Relations, Subject, drive_case_with_crew_and_check, run, run_timed,
+};
+use pst_judge::{CallOrder, Valid};
 use pst_model::Typed;
 use pst_system::{BoxedSystem, System};
 use std::alloc::Global;
@@ -29,6 +31,8 @@ pub struct ThreadDriver<'a, R: Threads + Wait> {
     pub rt: &'a R,
     /// The system, which each drive resets first.
     pub system: &'a mut BoxedSystem,
+    /// With `Time` each drive records the times of its calls.
+    pub order: CallOrder,
     /// The number of the trial.
     pub number: u64,
     /// Counts the candidates that are driven while the trial is shrunk.
@@ -63,7 +67,10 @@ impl<'a, R: Threads + Wait> Driver for ThreadDriver<'a, R> {
         typed: &Typed,
         valid: &Valid,
     ) -> Result<History, DriveFault> {
-        run(self.rt, alloc, typed, self.system, valid)
+        match self.order {
+            CallOrder::Any => run(self.rt, alloc, typed, self.system, valid),
+            CallOrder::Time => run_timed(self.rt, alloc, typed, self.system, valid),
+        }
     }
 
     fn note_next_candidate(&self, driven: u64) {
@@ -131,6 +138,7 @@ pub fn run_trial_with_progress<R: Threads + Wait>(
         &mut ThreadDriver {
             rt,
             system,
+            order: plan.settings().order,
             number,
             shrinking,
         },
@@ -184,7 +192,7 @@ impl<'r, 'c, 's, J: Relations, S: Subject, R: Wait> Driver for CrewDriver<'r, 'c
 }
 
 /// Does what `run_trial_with_progress` does, on the system of a crew and with its threads, which run by the model of the
-/// plan.
+/// plan. The crew has a clock if the order of the plan's settings is `Time`.
 pub fn run_trial_with_crew<J: Relations, S: Subject, R: Wait>(
     rt: &R,
     alloc: Global,

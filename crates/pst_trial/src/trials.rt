@@ -33,8 +33,8 @@ fn shrink_failing_case<D: Driver>(
     run: JudgedRun,
 ) -> Result<TrialOutcome, DriveFault>
     requires room { weight case + 1 < 2 ^ 32 }
-    requires broke { IsAnswer (D.may_drive driver.old) plan.now.model plan.now.settings.repeats case
-        (Broke earlier run) }
+    requires broke { IsAnswer (D.may_drive driver.old) plan.now.model plan.now.settings.order
+        plan.now.settings.repeats case (Broke earlier run) }
     ensures tried { IfOk result (IsTried (D.may_drive driver.old) plan.now case) }
     ensures fault { IfErr result (MayFail (D.may_fail driver.old)) }
     ensures keeps { D.keeps driver.old driver.new }

@@ -2,7 +2,8 @@
 
 use clap::builder::ValueParser;
 use clap::{Arg, ArgAction, ArgMatches, Command};
-use pst_cli::OutputForm;
+use pst_cli::{CallOrder, OutputForm};
+use pst_clients::ClientFolder;
 use pst_trial::{MAX_BRANCHES, MAX_TRIALS};
 use std::alloc::{AllocError, Global};
 
@@ -105,6 +106,59 @@ pub fn output_form_from_arguments(arguments: &ArgMatches<'_>) -> OutputForm {
     } else {
         OutputForm::Text
     }
+}
+
+/// The orders of calls.
+const ORDERS: [&str; 2] = ["time", "none"];
+
+/// An option that says which interleavings may explain a run.
+fn order_option_with_help<'a>(alloc: Global, help: &'a str) -> Arg<'a> {
+    Arg::new(alloc, "order")
+        .long("order")
+        .value_name("ORDER")
+        .value_parser(ValueParser::Names(&ORDERS))
+        .help(help)
+        .hide_possible_values(true)
+}
+
+/// The option that says which interleavings may explain a run that was recorded.
+pub fn order_option_for_recorded_runs<'a>(alloc: Global) -> Arg<'a> {
+    let help =
+        "Which interleavings may explain a run: all of them (none), or those in the order of the recorded times (time)";
+    order_option_with_help(alloc, help).default_value("time")
+}
+
+/// The option that says which interleavings may explain a run of a system.
+pub fn order_option_for_systems<'a>(alloc: Global) -> Arg<'a> {
+    let help =
+        "Which interleavings may explain a run: all of them (none, the default for SYSTEM), or those in the order of the recorded times (time, the default with --client)";
+    order_option_with_help(alloc, help)
+}
+
+/// Returns the order that the arguments select, or `default`.
+fn order_from_arguments_or_default(arguments: &ArgMatches<'_>, default: CallOrder) -> CallOrder {
+    match arguments.get_str("order") {
+        Some("none") => CallOrder::Any,
+        Some("time") => CallOrder::Time,
+        _ => default,
+    }
+}
+
+/// Returns which interleavings may explain a run that was recorded, by the arguments.
+pub fn order_for_recorded_runs_from_arguments(arguments: &ArgMatches<'_>) -> CallOrder {
+    order_from_arguments_or_default(arguments, CallOrder::Time)
+}
+
+/// Returns which interleavings may explain a run of a system, by the arguments. Without the option those in the order of
+/// time count for clients, and all for a sample system.
+pub fn order_for_systems_from_arguments(arguments: &ArgMatches<'_>) -> CallOrder {
+    let name = arguments.get_str("SYSTEM").unwrap_or("");
+    let default = if ClientFolder::from_argument(name).is_some() {
+        CallOrder::Time
+    } else {
+        CallOrder::Any
+    };
+    order_from_arguments_or_default(arguments, default)
 }
 
 /// The option that judges the items after a refused one.

@@ -3,8 +3,10 @@
 ghost use Rattle.std.specs.Prelude.{IfSome};
 ghost use Rattle.pst_trial.specs.Settings.{AreInRange};
 
+use crate::subcommands::options::order_for_systems_from_arguments;
 use clap::builder::ValueParser;
 use clap::{Arg, ArgMatches, Command};
+use pst_cli::CallOrder;
 use pst_trial::{
     MAX_BRANCHES, MAX_COMMANDS, MAX_LIMIT, MAX_REPEATS, MAX_SUFFIX, MAX_TRIALS, Settings,
 };
@@ -159,6 +161,7 @@ pub fn settings_for_generate_from_arguments(arguments: &ArgMatches<'_>) -> Optio
         suffix: number_from_arguments(arguments, "suffix")?,
         repeats: 1,
         limit: 0,
+        order: CallOrder::Any,
     };
     if settings.are_in_range() {
         Some(settings)
@@ -179,6 +182,7 @@ pub fn campaign_settings_from_arguments(arguments: &ArgMatches<'_>) -> Option<Se
         suffix: number_from_arguments(arguments, "suffix")?,
         repeats: number_from_arguments(arguments, "repeats")?,
         limit: number_from_arguments(arguments, "limit")?,
+        order: order_for_systems_from_arguments(arguments),
     };
     if settings.are_in_range() {
         Some(settings)

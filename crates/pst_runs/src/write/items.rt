@@ -1,4 +1,4 @@
-//! Items as trees: cases, and runs with their replies.
+//! Items as trees: cases, and runs with their replies and times.
 ghost use Rattle.std.specs.Prelude.{◌≡◌, IfOk, Ok, map};
 ghost use Rattle.pst_runs.specs.Items.{item_of};
 ghost use Rattle.pst_runs.specs.Lawful.{IsLawful};
@@ -6,6 +6,7 @@ ghost use Rattle.pst_runs.specs.ReadAgain.{IsRead};
 ghost use Rattle.pst_runs.specs.Written as spec;
 ghost use Rattle.pst_sexpr.specs.Lawful.{IsTree};
 
+use crate::write::times::{prove_times_are_small, times_forms};
 use crate::write::values::{forms_of_values, value_form};
 use pst_case::{Case, Command, History, Reply, Run};
 use pst_model::{Source, Typed, operation_of};
@@ -25,6 +26,7 @@ fn case_or_run_form(
     match history {
         Some(history) => {
             forms.push(replies_form(alloc, history)?)?;
+            forms.append(times_forms(alloc, &history.times)?)?;
             headed(alloc, "run", forms)
         }
         None => headed(alloc, "case", forms),
@@ -32,19 +34,20 @@ fn case_or_run_form(
 }
 
 /// Proves that a valid run is read from its tree. It allocates nothing: it only uses the invariants of the types of the
-/// model and of the case.
+/// model and of the case, and that times have at most 64 bits.
 pub fn prove_run_is_read_back(typed: &Typed, run: &Run)
     requires { IsLawful typed.now run.now }
     ensures { IsRead typed.now run.now }
 {
     let _model = typed.source();
     let _case = run.shaped.case();
+    prove_times_are_small(&run.history);
 }
 
 /// Returns the tree of a run: a `case` if it has no history, or else a `run`. It is read as an equal run.
 ///
 /// Two branches are written as `left` and `right`, three or four as `branches`; an empty suffix is not written. The run
-/// must be one of the model, and its history must match.
+/// must be one of the model, its history must match, and the times must fit its calls.
 pub fn run_tree(alloc: Global, typed: &Typed, run: &Run) -> Result<Tree, AllocError>
     requires { IsLawful typed.now run.now }
     // What is written of the run.

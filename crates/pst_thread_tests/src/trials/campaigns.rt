@@ -176,7 +176,7 @@ fn a_campaign_without_a_limit_runs_all_trials(rt: HostRuntime) -> Result<(), Fai
     Ok(())
 }
 
-/// A signal that is given before the first trial.
+/// A signal before the first trial.
 #[derive(Clone, Copy, Drop)]
 struct GivenSignal;
 

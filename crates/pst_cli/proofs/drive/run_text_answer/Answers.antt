@@ -11,7 +11,7 @@ returns-in-Some-eq0-clause-output g c =
     let s = (g.dyn-1.0.entry c.args.system.now.vtable).1 in
     let value = c.args.system.now.value in
     rw c.in-Some-eq0.is
-    (once (s.answers value) (s.fails value) (s.reset_fails value) c.args.input.now c.run_answer-in-Some-eq0.result c.in-Some-eq0.field-0
+    (once c.args.order (s.answers value) (s.fails value) (s.reset_fails value) c.args.input.now c.run_answer-in-Some-eq0.result c.in-Some-eq0.field-0
     (grind (arith, nat_tests, c.in-Some-eq0.field-0-test)) c.run_answer-in-Some-eq0.ensures.output)
 
 pub returns-in-Some-clause-output : goal.returns-in-Some-clause-output
@@ -19,5 +19,5 @@ returns-in-Some-clause-output g c =
     let s = (g.dyn-1.0.entry c.args.system.now.vtable).1 in
     let value = c.args.system.now.value in
     rw c.in-Some.is
-    (often (s.answers value) (s.fails value) (s.reset_fails value) c.args.input.now c.repeat_answer.result c.in-Some.repeats
+    (often c.args.order (s.answers value) (s.fails value) (s.reset_fails value) c.args.input.now c.repeat_answer.result c.in-Some.repeats
     (grind (arith, nat_tests, c.in-Some.repeats-test)) c.repeat_answer.ensures.output)

@@ -5,8 +5,8 @@ use Rattle.pst_cli.proofs.explain.document_explaining_chosen_items.Given as goal
 
 abbrev pub invariant-loop-run : goal.invariant-loop-run
 invariant-loop-run l = record {
-  lawful : AreLawful l.compiled l.rest;
-  judged : AreJudged l.compiled l.rest l.left;
+  lawful : AreLawful l.judge.callbacks.now l.rest;
+  judged : AreJudged l.judge.order l.judge.callbacks.now l.rest l.left;
 }
 
 abbrev pub decreases-loop-run : goal.decreases-loop-run

@@ -9,7 +9,7 @@ use Rattle.pst_cli.proofs.graph.graph_answer.Goals as goal
 
 pub returns-in-Err : goal.returns-in-Err
 returns-in-Err g c =
-    answers_so (IsFirstRefusal c.args.input.now) (IsGraphOutput c.args.input.now c.args.item) (λ text status h. refused h) c.in-Err.answer
+    answers_so (IsFirstRefusal c.args.input.now) (IsGraphOutput c.args.order c.args.input.now c.args.item) (λ text status h. refused h) c.in-Err.answer
     (rw c.in-Err.is at c.in_ok-file.ensures)
 
 pub returns : goal.returns
@@ -17,7 +17,7 @@ returns g c =
     let file = c.in-Ok.file in
     let read = rw c.in-Ok.is at c.in_ok-file.ensures in
     let all = file.judged.items in
-    let IsSo = IsGraphOutput c.args.input.now c.args.item in
+    let IsSo = IsGraphOutput c.args.order c.args.input.now c.args.item in
     let IsChosen = IsGraphOf c.args.item c.as_slice-2.result.now in
     if_ok_then (Answers IsChosen) (Answers IsSo)
     (answers_so IsChosen IsSo (λ text status h.

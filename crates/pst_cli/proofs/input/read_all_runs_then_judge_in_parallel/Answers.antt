@@ -21,11 +21,11 @@ returns g c =
     let runs = c.in-Ok.read.runs.items in
     let all = c.in_ok-judged.judged.items in
     let held = rw c.in-Ok.is at c.in_ok-read.ensures in
-    let OfRuns : List Run → Type 0 = λ rs. AreJudged m rs all in
+    let OfRuns : List Run → Type 0 = λ rs. AreJudged c.args.order m rs all in
     record {
       runs = runs;
       holds = held;
-      judged = subst OfRuns c.as_slice.ensures.value (are_judged m _ all c.in_ok-judged.ensures);
+      judged = subst OfRuns c.as_slice.ensures.value (are_judged m c.args.order _ all c.in_ok-judged.ensures);
       lawful = subst (AreLawful m) (sym c.in_ok-runs.ensures) (runs_lawful m (items_of held.trees) runs held.read);
       are_kept = λ all. c.in_ok-runs.ensures;
     }

@@ -27,7 +27,7 @@ returns-in-Some-2 g c =
     record {
       runs = runs;
       holds = held;
-      judged = are_judged m runs judgements read.judged.judged;
+      judged = are_judged m c.args.order runs judgements read.judged.judged;
       lawful = kept_are_lawful keeps m runs kept read.are_kept (items_are_lawful input m runs held);
       are_kept = λ all. all_are_kept keeps runs kept (c.keeps_runs_of_model-keeps.ensures all) read.are_kept;
     }

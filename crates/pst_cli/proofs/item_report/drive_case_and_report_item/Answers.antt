@@ -6,7 +6,7 @@ use Rattle.pst_cli.proofs.item_report.drive_case_and_report_item.Goals as goal
 
 pub returns-in-Ok-clause-report : goal.returns-in-Ok-clause-report
 returns-in-Ok-clause-report g c =
-    driven_item c.args.compiled.now _ _ _ c.args.valid c.in-Ok.history c.requires.model c.into_shaped-shaped.ensures.validity (rw c.typed.ensures at c.in-Ok.ensures.matches) (rw c.typed.ensures at c.in-Ok.ensures.driven)
+    driven_item c.args.judge.now.order c.args.judge.now.callbacks.now _ _ _ c.args.valid c.in-Ok.history c.requires.model c.into_shaped-shaped.ensures.validity (rw c.typed-typed.ensures at c.in-Ok.ensures.matches) (rw c.typed-typed.ensures at c.in-Ok.ensures.driven) c.in-Ok.ensures.timed
     c.judge_and_report_driven_run.result (rw c.into_shaped-shaped.ensures.same at c.judge_and_report_driven_run.ensures)
 
 pub returns-in-Err-clause-report : goal.returns-in-Err-clause-report

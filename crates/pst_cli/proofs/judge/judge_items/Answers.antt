@@ -12,4 +12,4 @@ returns-clause-prints g c =
 
 pub returns-clause-held : goal.returns-clause-held
 returns-clause-held g c =
-    judging_alone (HoldsJudging c.args.input.now) c.judge_answer-judged.result c.split_judging-answer.result.0 c.split_judging-answer.result.1 c.judge_answer-judged.ensures.held c.split_judging-answer.ensures
+    judging_alone (HoldsJudging c.args.options.order c.args.input.now) c.judge_answer-judged.result c.split_judging-answer.result.0 c.split_judging-answer.result.1 c.judge_answer-judged.ensures.held c.split_judging-answer.ensures

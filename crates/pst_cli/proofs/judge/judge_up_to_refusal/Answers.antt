@@ -6,7 +6,7 @@ use Rattle.pst_cli.proofs.judge.judge_up_to_refusal.Goals as goal
 
 pub returns-in-Err-clause-output : goal.returns-in-Err-clause-output
 returns-in-Err-clause-output g c =
-    answers_so (IsFirstRefusal c.args.input.now) (IsShownOutput c.args.shown c.args.input.now) (λ text status h. refused h) c.in-Err.answer
+    answers_so (IsFirstRefusal c.args.input.now) (IsShownOutput c.args.order c.args.shown c.args.input.now) (λ text status h. refused h) c.in-Err.answer
     (rw c.in-Err.is at c.in_ok-file.ensures)
 
 pub returns-clause-output : goal.returns-clause-output

@@ -13,7 +13,7 @@ returns-clause-reported g c =
     let reports = c.in_ok-reports.reports.items in
     let HasText : Output → Type 0 = λ o. o.text.items ≡ joined c.as_slice.result.now in
     let HasStatus : Output → Type 0 = λ o. o.status ≡ worst_of Accepted c.as_slice.result.now in
-    let IsSo : Output → Type 0 = λ o. ReportsAll c.args.compiled.now (s.answers value) (s.fails value) (s.reset_fails value) c.args.repeats c.args.runs.now o.text.items o.status in
+    let IsSo : Output → Type 0 = λ o. ReportsAll c.args.judge.now.order c.args.judge.now.callbacks.now (s.answers value) (s.fails value) (s.reset_fails value) c.args.repeats c.args.runs.now o.text.items o.status in
     if_ok_both HasText HasStatus IsSo
     (λ o t e. record {
       reports = reports;

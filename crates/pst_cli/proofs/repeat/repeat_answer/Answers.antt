@@ -18,8 +18,8 @@ pub returns-in-Err-clause-output : goal.returns-in-Err-clause-output
 returns-in-Err-clause-output g c =
     let s = (g.dyn-1.0.entry c.args.system.now.vtable).1 in
     let value = c.args.system.now.value in
-    answers_so (IsFirstRefusal c.args.input.now) (IsRepeatOutput (s.answers value) (s.fails value) (s.reset_fails value) c.args.repeats c.args.input.now)
-    (refused_repeats (s.answers value) (s.fails value) (s.reset_fails value) c.args.repeats c.args.input.now) c.in-Err.answer (rw c.in-Err.is at c.in_ok-read.ensures)
+    answers_so (IsFirstRefusal c.args.input.now) (IsRepeatOutput c.args.order (s.answers value) (s.fails value) (s.reset_fails value) c.args.repeats c.args.input.now)
+    (refused_repeats c.args.order (s.answers value) (s.fails value) (s.reset_fails value) c.args.repeats c.args.input.now) c.in-Err.answer (rw c.in-Err.is at c.in_ok-read.ensures)
 
 pub returns-clause-output : goal.returns-clause-output
 returns-clause-output g c =
@@ -27,7 +27,7 @@ returns-clause-output g c =
     let value = c.args.system.now.value in
     let held = rw c.in-Ok.is at c.in_ok-read.ensures in
     let m = c.in-Ok.read.compiled in
-    let OfRuns : List Run → Type 0 = λ rs. ReportsAll m (s.answers value) (s.fails value) (s.reset_fails value) c.args.repeats rs c.in_ok-text.field-0.text.items c.in_ok-text.field-0.status in
+    let OfRuns : List Run → Type 0 = λ rs. ReportsAll c.args.order m (s.answers value) (s.fails value) (s.reset_fails value) c.args.repeats rs c.in_ok-text.field-0.text.items c.in_ok-text.field-0.status in
     record {
       output = reported m held.trees c.in-Ok.read.runs.items held.holds held.read (subst OfRuns c.as_slice-runs.ensures.value c.in_ok-text.ensures.reported);
       refusing = λ e. absurd (cc);

@@ -8,6 +8,6 @@ invariant-loop-index g l =
     let now = (g.dyn-1.0.entry l.system.vtable).1 in
     let before = (g.dyn-1.0.entry l.initial.system.vtable).1 in
     record {
-      completes : Completes l.compiled (before.answers l.initial.system.value) (before.fails l.initial.system.value) (before.reset_fails l.initial.system.value) l.runs 1 l.index Accepted l.status l.text.items;
+      completes : Completes l.judge.order l.judge.callbacks.now (before.answers l.initial.system.value) (before.fails l.initial.system.value) (before.reset_fails l.initial.system.value) l.runs 1 l.index Accepted l.status l.text.items;
       kept : AreKept (now.answers l.system.value) (before.answers l.initial.system.value) (now.fails l.system.value) (before.fails l.initial.system.value) (now.reset_fails l.system.value) (before.reset_fails l.initial.system.value);
     }

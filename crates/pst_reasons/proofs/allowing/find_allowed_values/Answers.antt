@@ -13,8 +13,9 @@ pub returns-clause-exact : goal.returns-clause-exact
 returns-clause-exact g c =
     let r = c.args.run.now in
     let m = g.C.Callbacks.model r.callbacks.now in
+    let order = g.O.Order.order r.order.now in
     let others = without c.args.number c.args.core.now in
     let all = rw (c.as_slice.ensures.value, c.in_ok-others.ensures, c.new.ensures.items) at c.add_allowed_answers.ensures.all in
     if_ok_map _ _ c.add_allowed_answers.result
-    (λ found whether is one. let P : Bool → Type 0 = λ b. IsWhetherAll m r.shaped.now.case r.history.now others c.args.number b found.values in have_each_allowed m r.shaped.now.case r.history.now others c.args.number one found.values (subst P is whether))
+    (λ found whether is one. let P : Bool → Type 0 = λ b. IsWhetherAll m order r.shaped.now.case r.history.now others c.args.number b found.values in have_each_allowed m order r.shaped.now.case r.history.now others c.args.number one found.values (subst P is whether))
     all

@@ -1,6 +1,5 @@
 use Rattle.pst_reasons.proofs.FewerAsked.{kept_impossible, kept_needed, left_needed}
 use Rattle.pst_reasons.proofs.Rising.{kept_rising, left_rising}
-use Rattle.pst_judge.specs.InOrder.{IsRunInOrder}
 use Rattle.pst_reasons.specs.Reasons.{number_of_commands}
 use Rattle.pst_reasons.proofs.cores.leave_command_out_of_core_if_possible.Goals as goal
 
@@ -8,11 +7,11 @@ pub returns-in_default : goal.returns-in_default
 returns-in_default g c =
     let r = c.args.run.now in
     let m = g.C.Callbacks.model r.callbacks.now in
-    let W = IsRunInOrder (g.O.Order.order c.args.order.now) r.shaped.now.case in
+    let order = g.O.Order.order r.order.now in
     let impossible = rw (c.in_default.is, c.as_slice.ensures.value) at c.in_ok-merge.ensures in
     record {
       impossible = impossible;
-      needed = left_needed m r.shaped.now.case r.history.now W c.args.first.now c.args.core.items c.args.number c.requires.core.needed;
+      needed = left_needed m order r.shaped.now.case r.history.now c.args.first.now c.args.core.items c.args.number c.requires.core.needed;
       rising = left_rising (number_of_commands r.shaped.now.case) c.args.first.now c.args.core.items c.args.number c.requires.core.rising;
     }
 
@@ -20,10 +19,10 @@ pub returns : goal.returns
 returns g c =
     let r = c.args.run.now in
     let m = g.C.Callbacks.model r.callbacks.now in
-    let W = IsRunInOrder (g.O.Order.order c.args.order.now) r.shaped.now.case in
+    let order = g.O.Order.order r.order.now in
     let merge = rw (c.in-Some.is, c.as_slice.ensures.value) at c.in_ok-merge.ensures in
     rw c.in_ok-insert.ensures.items (record {
-      impossible = kept_impossible m r.shaped.now.case r.history.now W c.args.first.now c.args.core.items c.args.number c.requires.core.impossible;
-      needed = kept_needed m r.shaped.now.case r.history.now W c.args.first.now c.args.core.items c.args.number c.requires.core.needed (_, merge.0);
+      impossible = kept_impossible m order r.shaped.now.case r.history.now c.args.first.now c.args.core.items c.args.number c.requires.core.impossible;
+      needed = kept_needed m order r.shaped.now.case r.history.now c.args.first.now c.args.core.items c.args.number c.requires.core.needed (_, merge.0);
       rising = kept_rising (number_of_commands r.shaped.now.case) c.args.first.now c.args.core.items c.args.number c.requires.core.rising;
     })

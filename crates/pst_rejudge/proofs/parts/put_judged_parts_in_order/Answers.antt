@@ -5,7 +5,7 @@ use Rattle.pst_rejudge.specs.declared.parts.JudgedPart.{JudgedPart}
 use Rattle.pst_rejudge.proofs.parts.put_judged_parts_in_order.Goals as goal
 
 pub loop-taken-preserved : goal.loop-taken-preserved
-loop-taken-preserved c m keeps all =
-    let Stand : Vec JudgedPart Global → Type 0 = λ taken. All (StandsIn m keeps c.args.parts.now) taken.items in
+loop-taken-preserved c order m keeps all =
+    let Stand : Vec JudgedPart Global → Type 0 = λ taken. All (StandsIn order m keeps c.args.parts.now) taken.items in
     let both = before_last Stand c.loop-taken.yielded c.in-Some.taken all in
-    c.put_judged_parts_into_places-places.ensures m keeps c.args.parts.now (c.loop-taken.invariant m keeps both.0) both.1
+    c.put_judged_parts_into_places-places.ensures order m keeps c.args.parts.now (c.loop-taken.invariant order m keeps both.0) both.1

@@ -7,4 +7,4 @@ pub returns : goal.returns
 returns g c =
     let found = c.in-Ok.ensures.found in
     IfOk-weaker c.read_and_judge_tree.result _ _
-    (λ answer is. of_tree (g.C.Callbacks.model c.args.callbacks.now) c.args.line.now c.in-Ok.trees.items c.index.result.now answer found.0 found.1 (search rules) c.index.ensures is) c.read_and_judge_tree.ensures
+    (λ answer is. of_tree c.args.judge.now.order (g.C.Callbacks.model c.args.judge.now.callbacks.now) c.args.line.now c.in-Ok.trees.items c.index.result.now answer found.0 found.1 (search rules) c.index.ensures is) c.read_and_judge_tree.ensures

@@ -10,11 +10,11 @@ returns c =
     let p = c.args.plan.now in
     let one = c.add_text_field-2.new.fields.items in
     let two = c.add_seed_trials_commands_branches_fields.new.fields.items in
-    let three = c.add_suffix_repeats_limit_fields.new.fields.items in
+    let three = c.add_drive_fields.new.fields.items in
     let four = c.add_passed_and_failed_counts.new.fields.items in
     let head : one ≡ Words name.Verdict (status_word c.args.status) ∷ Words name.Model p.model.name ∷ [] = search rules in
     five_parts one two three four c.add_counts_of_trials_without_run.new.fields.items _ _ _ _ _ head
     (c.in_ok-add_seed_trials_commands_branches_fields.ensures ∙ ap (λ s. one ++ case_fields s) c.settings.ensures.same)
-    (c.in_ok-add_suffix_repeats_limit_fields.ensures ∙ ap (λ s. two ++ drive_fields s) c.settings-2.ensures.same)
+    (c.in_ok-add_drive_fields.ensures ∙ ap (λ s. two ++ drive_fields s) c.settings-2.ensures.same)
     (c.in_ok-add_passed_and_failed_counts.ensures ∙ ap (λ es. three ++ judged_fields es) c.entries-entries.ensures)
     (c.in_ok-add_counts_of_trials_without_run.ensures ∙ ap (λ es. four ++ missing_fields es) c.entries-entries.ensures)

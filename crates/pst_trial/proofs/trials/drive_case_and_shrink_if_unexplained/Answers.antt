@@ -16,7 +16,7 @@ pub shrink_failing_case-requires-clause-broke : goal.shrink_failing_case-require
 shrink_failing_case-requires-clause-broke g c =
     let steady = g.met.D.Driver.steady _ _ c.in-Ok.ensures.keeps in
     rw (c.into_case-case.ensures, c.into_shaped.ensures.same)
-    (answer_after steady c.args.plan.now.model c.args.plan.now.settings.repeats c.args.valid.case
+    (answer_after steady c.args.plan.now.model c.args.plan.now.settings.order c.args.plan.now.settings.repeats c.args.valid.case
     (Broke c.in-Broke.earlier c.in-Broke.run') (rw c.in-Broke.is at c.in-Ok.ensures.answer))
 
 pub returns-in-Broke-clause-tried : goal.returns-in-Broke-clause-tried

@@ -1,5 +1,0 @@
-use Rattle.pst_grid.proofs.Timely.{real-time-never-blocks}
-use Rattle.pst_grid.proofs.laws.real_time_never_blocks.Goals as goal
-
-pub returns : goal.returns
-returns c = real-time-never-blocks

@@ -1,0 +1,5 @@
+use Rattle.std.proofs.Common.{length}
+use Rattle.pst_runs.proofs.write.times.+prove_calls_are_small.Given as goal
+
+abbrev pub decreases-prove_calls_are_small : goal.decreases-prove_calls_are_small
+decreases-prove_calls_are_small l = length l.calls.now
