@@ -13,6 +13,7 @@ use crate::failures::{
     Failure, failure_at_fault_place, failure_in_unknown_interleaving,
     failure_of_call_in_interleaving,
 };
+use crate::obstacles::obstacles_within_limit;
 use crate::places::TreePlace;
 use crate::walks::{
     InterleavingStates, furthest_interleaving_with_blocked_calls, states_of_explaining_interleaving,
@@ -23,6 +24,7 @@ use pst_judge::{
     CallOrder, Judged, RecordedOrder, Verdict, Why, verdict_with_interleaving_in_order,
 };
 use pst_model::Typed;
+use pst_precedence::Obstacles;
 use pst_reasons::{Order, RecordedRun};
 use pst_scene::{CasePart, Scene, call_numbered, scene_of_run};
 use std::alloc::{AllocError, Global};
@@ -114,6 +116,11 @@ pub struct Explanation<'a> {
     /// The item and its model.
     pub scene: Scene<'a>,
     pub reason: JudgementReason<'a>,
+    /// Whether only the interleavings in the order of the recorded times count.
+    pub is_timed: bool,
+    /// What the order in time rules out, if the item would be explained without it. `None` too if its search takes too
+    /// many steps.
+    pub obstacles: Option<Obstacles>,
 }
 
 /// Returns a core, unless the steps of the callbacks do not last for it.
@@ -279,6 +286,33 @@ fn explain_invalid_case<'a>(
     }
 }
 
+/// What stands against an explanation of an item that no interleaving explains.
+fn obstacles_if_unexplained<C: Callbacks>(
+    callbacks: &C,
+    order: CallOrder,
+    alloc: Global,
+    run: &Run,
+    judged: &Judged,
+) -> Result<Option<Obstacles>, AllocError>
+    requires shaped { run.now.shaped.model ≡ C.model callbacks.now }
+    requires matches { HistoryMatches (C.model callbacks.now) run.now }
+{
+    match (judged, &run.history) {
+        (Judged::Verdict(Verdict::Unexplained(_) | Verdict::Faulted(_)), Some(history)) => {
+            obstacles_within_limit(callbacks, order, alloc, &run.shaped, history)
+        }
+        _ => Ok(None),
+    }
+}
+
+/// Whether only the interleavings in the order of the recorded times of an item count.
+fn has_order_in_time(order: CallOrder, run: &Run) -> bool {
+    match &run.history {
+        Some(history) => order == CallOrder::Time && history.times.is_some(),
+        None => false,
+    }
+}
+
 /// Explains an item of a model: `judged` is its judgement by `order`, `number` its number, and `place` where it begins in
 /// the input. Only the interleavings that count by `order` may explain it. The searches take at most 2,000,000 steps of
 /// callbacks together. What they do not find in these is left out.
@@ -298,6 +332,7 @@ pub fn explain_item<'a, C: Callbacks>(
     requires judged { IsJudgementBy order (C.model callbacks.now) run.now judged.now }
 {
     let scene = scene_of_run(alloc, typed, run)?;
+    let obstacles = obstacles_if_unexplained(callbacks, order, alloc, run, judged)?;
     let reason = match judged {
         Judged::Verdict(verdict) => match &run.history {
             Some(history) => explain_verdict(callbacks, order, alloc, &scene, history, verdict)?,
@@ -312,5 +347,7 @@ pub fn explain_item<'a, C: Callbacks>(
         judged,
         scene,
         reason,
+        is_timed: has_order_in_time(order, run),
+        obstacles,
     })
 }

@@ -20,6 +20,7 @@ mod explanation;
 mod failure_text;
 mod failures;
 mod graph;
+mod obstacles;
 mod parts;
 mod places;
 mod position;
@@ -38,8 +39,10 @@ pub use failures::{
     ExpressionWithFaultyPart, ExpressionWithNameValues, Failure, FaultyPartWithValues,
 };
 pub use graph::graphviz_text_of_item_search;
+pub use obstacles::preceding_calls;
 pub use places::{TreePlace, tree_places_in_input};
 pub use position::GraphPosition;
+pub use pst_precedence::{Obstacles, Precedence};
 pub use search::{GraphMove, GraphMoveTarget, SearchGraph, build_search_graph_if_small};
 pub use text::{
     append_colored_explanation_text, append_explanation_text, explanation_text_without_heading,

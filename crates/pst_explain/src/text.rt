@@ -4,6 +4,7 @@ use crate::breaking::{CallWithBrokenReply, broken_reply_sentence};
 use crate::core_text::add_optional_core_and_run_text;
 use crate::explanation::{Explanation, JudgementReason};
 use crate::failure_text::add_failure_explanation_text;
+use crate::obstacles::add_obstacles_text;
 use crate::parts::add_marked_run_text;
 use crate::walk_text::{
     add_blocked_calls_text, add_explaining_interleaving_with_precondition_notes,
@@ -51,9 +52,28 @@ fn add_count_of_holding_events(text: &mut Vec<u8>, far: usize) -> Result<(), All
     add_str(text, " events hold")
 }
 
-/// Returns a sentence that says that in every interleaving `far` events hold before one does not.
-fn sentence_on_equally_far_interleavings(alloc: Global, far: usize) -> Result<Vec<u8>, AllocError> {
-    let mut text = copy_explanation_text(alloc, "In every interleaving ")?;
+/// What an interleaving that counts is called.
+fn interleaving_name(is_timed: bool) -> &'static str {
+    if is_timed {
+        "interleaving in order of time"
+    } else {
+        "interleaving"
+    }
+}
+
+/// Returns a sentence that says that in every interleaving that counts `far` events hold before one does not.
+fn sentence_on_equally_far_interleavings(
+    alloc: Global,
+    is_timed: bool,
+    far: usize,
+) -> Result<Vec<u8>, AllocError> {
+    let mut text = copy_explanation_text(alloc, "In every ")?;
+    add_str(&mut text, interleaving_name(is_timed))?;
+    add_str(&mut text, " ")?;
+    if far == 0 {
+        add_str(&mut text, "the first event does not hold:")?;
+        return Ok(text);
+    }
     add_count_of_holding_events(&mut text, far)?;
     add_str(&mut text, " before one does not:")?;
     Ok(text)
@@ -63,19 +83,16 @@ fn sentence_on_equally_far_interleavings(alloc: Global, far: usize) -> Result<Ve
 /// with `interleaving`. If `interleaving` is empty, every interleaving gets as far.
 fn furthest_interleaving_sentence(
     alloc: Global,
+    is_timed: bool,
     far: usize,
     interleaving: &[usize],
 ) -> Result<Vec<u8>, AllocError> {
-    if far == 0 {
-        return copy_explanation_text(
-            alloc,
-            "In every interleaving the first event does not hold:",
-        );
+    if far == 0 || interleaving.is_empty() {
+        return sentence_on_equally_far_interleavings(alloc, is_timed, far);
     }
-    if interleaving.is_empty() {
-        return sentence_on_equally_far_interleavings(alloc, far);
-    }
-    let mut text = copy_explanation_text(alloc, "No interleaving gets further than ")?;
+    let mut text = copy_explanation_text(alloc, "No ")?;
+    add_str(&mut text, interleaving_name(is_timed))?;
+    add_str(&mut text, " gets further than ")?;
     add_interleaving_letters_or_dash(&mut text, interleaving)?;
     add_str(&mut text, ", where ")?;
     add_count_of_holding_events(&mut text, far)?;
@@ -92,13 +109,19 @@ fn add_furthest_interleaving_text(
     page: &mut Page,
     alloc: Global,
     model: &Source,
+    is_timed: bool,
     far: usize,
     walk: Option<&InterleavingStates<'_>>,
 ) -> Result<(), AllocError> {
     let Some(walk) = walk else {
         return page.add_wrapped_sentence(alloc, 2, NO_FURTHEST.as_bytes());
     };
-    let sentence = furthest_interleaving_sentence(alloc, far, walk.interleaving.as_slice())?;
+    let sentence = furthest_interleaving_sentence(
+        alloc,
+        is_timed,
+        far,
+        walk.interleaving.as_slice(),
+    )?;
     page.add_wrapped_sentence(alloc, 2, sentence.as_slice())?;
     add_interleaving_states_text(page, alloc, model, walk)?;
     add_blocked_calls_text(page, alloc, model, walk.stopped.as_slice())
@@ -119,14 +142,26 @@ fn add_broken_reply_and_run_text(
     add_marked_run_text(page, alloc, scene, &[broken.number])
 }
 
+/// Adds what the order in time rules out, if that is known.
+fn add_any_obstacles_text(
+    page: &mut Page,
+    alloc: Global,
+    explanation: &Explanation<'_>,
+) -> Result<(), AllocError> {
+    match &explanation.obstacles {
+        Some(obstacles) => add_obstacles_text(page, alloc, &explanation.scene, obstacles),
+        None => Ok(()),
+    }
+}
+
 /// Adds the reason of the judgement.
 fn add_judgement_reason_text(
     page: &mut Page,
     alloc: Global,
-    scene: &Scene<'_>,
-    reason: &JudgementReason<'_>,
+    explanation: &Explanation<'_>,
 ) -> Result<(), AllocError> {
-    match reason {
+    let scene = &explanation.scene;
+    match &explanation.reason {
         JudgementReason::Explained(walk) => add_explaining_interleaving_with_precondition_notes(
             page,
             alloc,
@@ -139,11 +174,15 @@ fn add_judgement_reason_text(
             furthest,
         } => {
             add_optional_core_and_run_text(page, alloc, scene, core.as_ref())?;
-            add_furthest_interleaving_text(page, alloc, scene.model, *far, furthest.as_ref())
+            add_any_obstacles_text(page, alloc, explanation)?;
+            let is_timed = explanation.is_timed;
+            let furthest = furthest.as_ref();
+            add_furthest_interleaving_text(page, alloc, scene.model, is_timed, *far, furthest)
         }
         JudgementReason::Faulted { failure, core } => {
             add_failure_explanation_text(page, alloc, scene, failure)?;
-            add_optional_core_and_run_text(page, alloc, scene, core.as_ref())
+            add_optional_core_and_run_text(page, alloc, scene, core.as_ref())?;
+            add_any_obstacles_text(page, alloc, explanation)
         }
         JudgementReason::Broken(broken) => add_broken_reply_and_run_text(
             page, alloc, scene, broken,
@@ -162,7 +201,7 @@ pub fn explanation_text_without_heading(
     width: usize,
 ) -> Result<Vec<u8>, AllocError> {
     let mut page = Page::new(alloc, width);
-    add_judgement_reason_text(&mut page, alloc, &explanation.scene, &explanation.reason)?;
+    add_judgement_reason_text(&mut page, alloc, explanation)?;
     Ok(page.into_text())
 }
 
@@ -173,7 +212,7 @@ fn add_explanation_to_page(
     explanation: &Explanation<'_>,
 ) -> Result<(), AllocError> {
     add_explanation_heading(page, alloc, explanation)?;
-    add_judgement_reason_text(page, alloc, &explanation.scene, &explanation.reason)
+    add_judgement_reason_text(page, alloc, explanation)
 }
 
 /// Returns `text` and after it the text of an explanation in lines of at most `width` bytes. Parts that are longer than a

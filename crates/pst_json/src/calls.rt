@@ -5,9 +5,9 @@ use crate::values::{
 };
 use crate::writing::{write_json_byte_string, write_json_number_member};
 use json::Writer;
-use pst_case::Reply;
+use pst_case::{CallTime, Reply};
 use pst_model::Source;
-use pst_scene::{Call, Scene, operation_of_call};
+use pst_scene::{Call, CasePart, Scene, operation_of_call};
 use std::alloc::{AllocError, Global};
 
 /// Writes the place of a call, as `L2`.
@@ -73,6 +73,28 @@ fn write_json_call_identity_members(
     write_json_number_member(writer, "index", call.place)
 }
 
+/// The recorded times of a call, if there are some: those of a call of a branch.
+fn time_of_call(scene: &Scene<'_>, call: &Call<'_>) -> Option<CallTime> {
+    let CasePart::Branch(branch) = call.part else {
+        return None;
+    };
+    let times = scene.run.history.as_ref()?.times.as_ref()?;
+    let times = times.as_slice().get(branch)?;
+    times.as_slice().get(call.place.saturating_sub(1)).copied()
+}
+
+/// Writes the member `time`: when the call was invoked and when it completed, which is `null` if nobody knows.
+fn write_json_time_member(writer: &mut Writer<Global>, time: CallTime) -> Result<(), AllocError> {
+    writer.key("time")?;
+    writer.begin_array()?;
+    writer.u64(time.invoked)?;
+    match time.completed {
+        Some(at) => writer.u64(at)?,
+        None => writer.null()?,
+    }
+    writer.end_array()
+}
+
 /// Writes a call.
 fn write_json_call(
     writer: &mut Writer<Global>,
@@ -88,6 +110,9 @@ fn write_json_call(
     if let Some(reply) = call.reply {
         writer.key("reply")?;
         write_json_reply_with_text(writer, alloc, scene.model, reply)?;
+    }
+    if let Some(time) = time_of_call(scene, call) {
+        write_json_time_member(writer, time)?;
     }
     writer.end_object()
 }

@@ -7,7 +7,7 @@ use crate::failures::{
     write_json_call_with_broken_reply_member, write_json_false_or_faulty_callback_member,
 };
 use crate::graphs::write_json_search_counts_and_any_graph;
-use crate::reasons::write_json_core_members;
+use crate::reasons::{write_json_core_members, write_json_obstacles_member};
 use crate::walks::write_json_interleaving_states_member;
 use crate::writing::{into_page_safe_ascii_json, write_json_number_member, write_json_text_member};
 use json::Writer;
@@ -95,6 +95,9 @@ fn write_json_reason_members(
     let reason = &explanation.reason;
     if let Some(core) = reason.core() {
         write_json_core_members(writer, alloc, model, core)?;
+    }
+    if let Some(obstacles) = &explanation.obstacles {
+        write_json_obstacles_member(writer, alloc, &explanation.scene, obstacles)?;
     }
     if let Some(walk) = reason.interleaving() {
         write_json_interleaving_states_member(writer, alloc, explanation, walk)?;

@@ -349,7 +349,7 @@ function blame() {
   if (ids.length === 1) return [ids, ' cannot be right, whatever the other calls answered', item.prefix ? '. The prefix alone shows it: no race is needed.' : '.'];
   return [join(ids, ', ', ' and '), isPair ? ' cannot both be right: ' : ' cannot all be right: ',
     orderCount() === 1 ? 'the model does not allow them together. '
-      : 'none of the ' + (orderCount() ? count(orderCount(), 'order') : 'orders') + ' makes ' + (isPair ? 'both' : 'all of them') + ' right. ',
+      : (item.in_time ? 'no order in time' : 'none of the ' + (orderCount() ? count(orderCount(), 'order') : 'orders')) + ' makes ' + (isPair ? 'both' : 'all of them') + ' right. ',
     isPair ? 'Either alone can be right.' : 'Without any one of them the others can be right.'];
 }
 
@@ -386,6 +386,13 @@ function conclusion(answered, values) {
   if (!why) return [premise, 'it is wrong.'];
   if (why.wants || why.compares || why.state === undefined) return [premise, reason(why, rule(blamedCall)), '.'];
   return [premise, expression(why.part || rule(blamedCall), valuesOf(blamedCall, why.state)), why.part ? ' is false.' : ' faults.'];
+}
+
+/** What the order in time rules out. */
+function orderInTime() {
+  const {in_time: found} = item;
+  return found && h('p', {id: 'in-time'}, 'Without the order in time ', join([...found.without].map(chip), ' '), ' would explain it. Against it: ',
+    join(found.against.map(({earlier, later}) => [chip(later), ' began after ', chip(earlier), ' had been answered']), ', ', ' and '), '.');
 }
 
 function corePanels() {
@@ -621,7 +628,7 @@ function render() {
   document.title = item.item + ' ' + item.line + ' – ' + model.name;
   byId('main').replaceChildren(...[
     h('div', {class: 'place'}, badge(item), h('span', null, (item.kind === 'run' ? 'Run ' : 'Case ') + item.item + (items.length > 1 ? ' of ' + items.length : '')), h('span', {class: 'mono'}, place(item))),
-    h('h1', null, HEADINGS[item.verdict] || item.line), LEADS[item.verdict] && h('p', {class: 'lead'}, LEADS[item.verdict]()), corePanels(),
+    h('h1', null, HEADINGS[item.verdict] || item.line), LEADS[item.verdict] && h('p', {class: 'lead'}, LEADS[item.verdict]()), corePanels(), orderInTime(),
     ...(isWide ? [run, steps, callbackPanel()] : [h('div', {class: 'two'}, columns)]), isWideGraph && graph, modelPanel(),
     h('details', {class: 'help'}, h('summary', null, 'How to read this page'), HELP.map(text => h('p', null, text))),
     h('p', {class: 'help'}, keys(['←', '→'], 'step'), items.length > 1 && [keys(['j', 'k'], 'next and previous run'), keys(['/'], 'search')])].filter(Boolean));

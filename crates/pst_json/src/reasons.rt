@@ -1,6 +1,6 @@
 //! Reasons: why a call cannot come next, and the answers that cannot all be right.
 
-use crate::calls::write_json_call_member_with_id;
+use crate::calls::{write_json_call_id, write_json_call_member_with_id};
 use crate::values::{
     write_json_state_spelling_member, write_json_value_member, write_json_values_member,
 };
@@ -10,10 +10,11 @@ use crate::writing::{
     write_json_spelling_member,
 };
 use json::Writer;
-use pst_explain::{Core, CoreAnswer, WrongAnswer};
+use pst_explain::{Core, CoreAnswer, Obstacles, Precedence, WrongAnswer, preceding_calls};
 use pst_model::Source;
 use pst_scene::{
-    DeadEnd, Evidence, FalsePart, Falsity, dead_end_text, false_postcondition_text, value_text,
+    DeadEnd, Evidence, FalsePart, Falsity, Scene, dead_end_text, false_postcondition_text,
+    value_text,
 };
 use pst_value::Value;
 use std::alloc::{AllocError, Global};
@@ -154,4 +155,42 @@ pub fn write_json_core_members(
         write_json_bool_member(writer, "prefix", true)?;
     }
     Ok(())
+}
+
+/// Writes a precedence: the call that was answered before the other began, and the other.
+fn write_json_precedence(
+    writer: &mut Writer<Global>,
+    alloc: Global,
+    scene: &Scene<'_>,
+    precedence: Precedence,
+) -> Result<(), AllocError> {
+    let Some((earlier, later)) = preceding_calls(scene, precedence) else {
+        return Ok(());
+    };
+    writer.begin_object()?;
+    writer.key("earlier")?;
+    write_json_call_id(writer, alloc, earlier)?;
+    writer.key("later")?;
+    write_json_call_id(writer, alloc, later)?;
+    writer.end_object()
+}
+
+/// Writes the member `in_time`: the interleaving that would explain an item without its times, and the precedences that
+/// stand against it.
+pub fn write_json_obstacles_member(
+    writer: &mut Writer<Global>,
+    alloc: Global,
+    scene: &Scene<'_>,
+    obstacles: &Obstacles,
+) -> Result<(), AllocError> {
+    writer.key("in_time")?;
+    writer.begin_object()?;
+    write_json_interleaving_member(writer, alloc, "without", obstacles.interleaving.as_slice())?;
+    writer.key("against")?;
+    writer.begin_array()?;
+    for precedence in &obstacles.precedences {
+        write_json_precedence(writer, alloc, scene, *precedence)?;
+    }
+    writer.end_array()?;
+    writer.end_object()
 }

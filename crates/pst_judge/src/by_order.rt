@@ -50,8 +50,9 @@ impl<'a> Order for RecordedOrder<'a> {
     }
 }
 
-/// The recorded times of a history, if there is one for each command of the branches.
-fn fitting_times<'a>(
+/// Returns the recorded times of a history, if there is one for each command of the branches. `AllocError` means that an
+/// allocation failed.
+pub fn fitting_times<'a>(
     alloc: Global,
     shaped: &Shaped,
     history: &'a History,

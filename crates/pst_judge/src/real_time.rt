@@ -8,7 +8,7 @@ use pst_grid::Order;
 use pst_value::Items;
 
 /// Whether a call completed before `other` was invoked. At the same time is not before.
-fn precedes(call: CallTime, other: CallTime) -> bool
+pub fn precedes(call: CallTime, other: CallTime) -> bool
     ensures { result ≡ spec.precedes call other }
 {
     match call.completed {

@@ -11,6 +11,8 @@ mod copies;
 #[cfg(test)]
 mod merges;
 #[cfg(test)]
+mod obstacles;
+#[cfg(test)]
 mod parts;
 #[cfg(test)]
 mod shrunk;
