@@ -26,7 +26,7 @@ pub trait LineSource {
     /// That a source of this type may read more than the line that is wanted of it.
     ghost may_run_ahead: { Type 0 };
 
-    /// The bytes that are left, where they are known.
+    /// The bytes that are left, if they are known.
     ghost remaining: { Self → Option (List ℕ) };
 
     /// The next line without its end.
@@ -45,7 +45,7 @@ pub trait LineSource {
 pub trait LineSink {
     ghost use Rattle.std.specs.Prelude.{ℕ, List, Option};
 
-    /// The bytes that were sent, where they are known.
+    /// The bytes that were sent, if they are known.
     ghost contents: { Self → Option (List ℕ) };
 
     /// That a sink of this type may be closed.

@@ -286,7 +286,7 @@ fn explain_invalid_case<'a>(
     }
 }
 
-/// What stands against an explanation of an item that no interleaving explains.
+/// What rules out an explanation of an item that no interleaving explains.
 fn obstacles_if_unexplained<C: Callbacks>(
     callbacks: &C,
     order: CallOrder,

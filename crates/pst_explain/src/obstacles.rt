@@ -1,5 +1,5 @@
 //! What the order in time rules out: an interleaving that would explain a run without its times, and the precedences
-//! that stand against it.
+//! that rule it out.
 ghost use Rattle.std.specs.Prelude.{◌≡◌, true};
 ghost use Rattle.pst_case.specs.Matches.{matches};
 
@@ -15,7 +15,7 @@ use pst_scene::{
 };
 use std::alloc::{AllocError, Global};
 
-/// What stands against an explanation of a run that is not explained by `order`. `None` if nothing but the answers does,
+/// What rules out an explanation of a run that is not explained by `order`. `None` if nothing but the answers does,
 /// and if the search takes more than 2,000,000 steps of callbacks.
 pub fn obstacles_within_limit<C: Callbacks>(
     callbacks: &C,
@@ -79,7 +79,7 @@ fn add_precedence_row(
     table.add_row(row)
 }
 
-/// Adds the interleaving that would explain a run without its times, and what stands against it.
+/// Adds the interleaving that would explain a run without its times, and what rules it out.
 pub fn add_obstacles_text(
     page: &mut Page,
     alloc: Global,

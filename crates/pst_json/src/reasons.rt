@@ -176,7 +176,7 @@ fn write_json_precedence(
 }
 
 /// Writes the member `in_time`: the interleaving that would explain an item without its times, and the precedences that
-/// stand against it.
+/// rule it out.
 pub fn write_json_obstacles_member(
     writer: &mut Writer<Global>,
     alloc: Global,

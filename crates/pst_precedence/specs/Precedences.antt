@@ -1,4 +1,4 @@
--- Precedences between calls of the branches, and what stands against an explanation of a run.
+-- Precedences between calls of the branches, and what rules out an explanation of a run.
 use Rattle.std.specs.Prelude.{◌≡◌, ◌==◌, ◌&&◌, ℕ, ◌<◌, nat_lt, Bool, true, not, List, length, slice_index, Some}
 use Rattle.std.specs.List.{All, list_all, remove}
 use Rattle.pst_case.specs.declared.case.Case.{Case}
@@ -55,7 +55,7 @@ pub record IsRecorded (times : List (List CallTime)) (p : Precedence) : Type 0 w
 abbrev pub IsExplainedIn : Source → (List ℕ → ℕ → Bool) → Case → History → Type 0
 IsExplainedIn m order c h = (word : List ℕ) × IsRunInOrder order c word × (replayed m c h word ≡ AllTrue)
 
--- what stands against an explanation of a run
+-- what rules out an explanation of a run
 pub record AreObstacles (m : Source) (c : Case) (h : History) (o : Obstacles) : Type 0 where
   -- without its times the run is explained, by this interleaving
   pub explained : IsVerdict m c h (Explained o.interleaving)
@@ -68,6 +68,6 @@ pub record AreObstacles (m : Source) (c : Case) (h : History) (o : Obstacles) : 
   -- without any one of them some interleaving does
   pub needed : (i : ℕ) → i < length o.precedences.items → IsExplainedIn m (keeping (remove o.precedences.items i)) c h
 
--- nothing stands against it: if an interleaving explains the run, one in the order of time does
+-- nothing rules it out: if an interleaving explains the run, one in the order of time does
 abbrev pub HasNoObstacle : Source → Case → History → Type 0
 HasNoObstacle m c h = (v : Verdict) → IsVerdict m c h v → IsExplained v → IsExplainedIn m (order_by Time c h) c h

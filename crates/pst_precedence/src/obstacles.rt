@@ -1,4 +1,4 @@
-//! What stands against an explanation of a run.
+//! What rules out an explanation of a run.
 ghost use Rattle.std.specs.Prelude.{◌≡◌, ◌++◌, ◌∷◌, [], true, IfOk, MatchOption};
 ghost use Rattle.pst_case.specs.Matches.{matches};
 ghost use Rattle.pst_judge.specs.Verdict.{IsVerdict};
@@ -14,7 +14,7 @@ use pst_eval::Callbacks;
 use pst_judge::{CallOrder, Verdict, fitting_times, verdict_by};
 use std::alloc::{AllocError, Global};
 
-/// What stands against an explanation of a run.
+/// What rules out an explanation of a run.
 #[derive(Debug, Drop)]
 pub struct Obstacles {
     /// The first interleaving that would explain the run without its times: the numbers of its branches, from 0.
@@ -92,7 +92,7 @@ fn explaining_interleaving<C: Callbacks>(
     }
 }
 
-/// Returns the first interleaving that would explain the run without its times, and precedences that stand against any
+/// Returns the first interleaving that would explain the run without its times, and precedences that rule out any
 /// such one. `None` if no interleaving explains the run, or one in the order of time does.
 ///
 /// Of the precedences from calls of one branch to calls of another, those of calls that are close together are
