@@ -13,7 +13,10 @@ use crate::explaining::explain_command_from_arguments;
 use crate::generating::generate_command_from_arguments;
 use crate::outputs::{WriteErrorKeeper, print_output_error_unless_pipe_closed};
 use crate::preparing::{PreparedInput, SubcommandContext, output_file_name_from_arguments};
-use crate::result_file::{ResultFile, open_or_create_file_without_emptying};
+use crate::result_file::{
+    ResultFile, open_or_create_file_without_emptying, status_after_ending_result_file,
+    status_after_reporting_output_failure, writer_and_error_if_failed,
+};
 use crate::stop_signals::{StopFileState, StopFileWatch, StopFlag};
 use crate::subcommands::{Subcommand, output_form_from_arguments};
 use crate::systems::{SystemsError, system_name_from_arguments_or_empty};
@@ -26,9 +29,8 @@ use pst_sexpr::{Out, Sink};
 use pst_sources::{Input, SourceFile};
 use pst_system::BoxedSystem;
 use std::alloc::Global;
-use std::fs::{OpenFile, remove_file, symlink_metadata};
+use std::fs::symlink_metadata;
 use std::io;
-use std::io::Write;
 use std::rt::{Env, Files, Runtime};
 use std::sync::{Arc, Wait};
 use std::thread::{JoinHandle, Threads};
@@ -250,52 +252,6 @@ fn print_outcome_messages_unless_quiet<R: Eprint + AllocGlobal>(
         ),
     }
     summary::print_summary_if_several_items(rt, counts);
-}
-
-/// Returns the status of a command with the status `status` whose output, to the file `name` or to standard output, had
-/// the error `failure`. Standard error says so if there is one.
-fn status_after_reporting_output_failure<R: Eprint + AllocGlobal>(
-    rt: &R,
-    status: Status,
-    name: Option<&str>,
-    failure: Option<io::Error>,
-) -> Status {
-    match failure {
-        Some(error) => print_output_error_unless_pipe_closed(rt, rt.alloc(), name, &error),
-        None => status,
-    }
-}
-
-/// Returns the writer of an output, and the error that the output failed with.
-fn writer_and_error_if_failed<W: Write>(
-    output: Out<WriteErrorKeeper<W>>,
-) -> (W, Option<io::Error>) {
-    let has_failed = output.has_failed();
-    let (writer, failure) = output.into_inner().into_parts();
-    if has_failed {
-        (writer, failure)
-    } else {
-        (writer, None)
-    }
-}
-
-/// Ends the output of a command with the status `status` to the file `name`: empties the file if nothing was written to it
-/// and the input is not refused, and removes it if it stays as it was and was not there before.
-fn status_after_ending_result_file<R: Files + Eprint + AllocGlobal, F: Write + OpenFile + Drop>(
-    rt: &R,
-    file: Out<WriteErrorKeeper<ResultFile<F>>>,
-    name: &str,
-    was_there: bool,
-    status: Status,
-) -> Status {
-    let (mut file, mut failure) = writer_and_error_if_failed(file);
-    if failure.is_none() && matches!(status, Status::Accepted | Status::Failed) {
-        failure = file.begin().err();
-    }
-    if !file.has_begun() && !was_there {
-        let _ = remove_file(rt, name);
-    }
-    status_after_reporting_output_failure(rt, status, Some(name), failure)
 }
 
 /// Runs the subcommand with its output to the file that the arguments name, or to standard output. If the input is refused,

@@ -1,5 +1,5 @@
 //! `pst judge --stream`.
-ghost use Rattle.std.specs.Prelude.{◌≡◌, false, ℕ, List, Some};
+ghost use Rattle.std.specs.Prelude.{◌≡◌, false, ℕ, List, Some, ⊤};
 ghost use Rattle.pst_cli.specs.Answering.{Delivers, Reaches, Stands};
 ghost use Rattle.pst_cli.specs.Sending.{memory_line};
 ghost use Rattle.pst_cli.specs.StreamOutput.{IsStreamOutput};
@@ -15,6 +15,7 @@ use pst_cli::{
     Absence, Attendant, CallOrder, Destinations, ItemResultCounts, RefusedLineReceiver, Status,
     count_items_of_input, judge_stream, refuse_text,
 };
+use pst_rejudge::ReaderBlocks;
 use pst_sexpr::Sink;
 use std::alloc::Global;
 use std::io::{self, ErrorKind, Input, Read};
@@ -134,28 +135,30 @@ fn judge_stream_with_progress<
 ) -> (Status, Option<io::Error>)
     requires { Stands F.broken W.broken to.old }
     ensures { (bytes : List ℕ) → I.remaining reader ≡ Some bytes
-        → Reaches memory_line (IsStreamOutput order input.now bytes)
+        → Reaches memory_line (IsStreamOutput ⊤ order input.now bytes)
         (Delivers F.taken F.broken W.taken W.broken to.old to.new result.0) }
 {
     let alloc = rt.alloc();
     let mut display = ProgressDisplay::of_items(rt, alloc, has_progress_line, "judged");
-    let mut reader = ReadErrorKeeper {
-        reader,
-        failure: None,
+    let mut source = ReaderBlocks {
+        reader: ReadErrorKeeper {
+            reader,
+            failure: None,
+        },
     };
     let status = judge_stream(
         rt,
         alloc,
         input,
         order,
-        &mut reader,
+        &mut source,
         counts,
         display.steps(),
         receiver,
         to,
     );
     display.before_output();
-    (status, reader.failure)
+    (status, source.reader.failure)
 }
 
 /// Judges the items of standard input, one on each line, by the model at the beginning of `input`. If standard error is

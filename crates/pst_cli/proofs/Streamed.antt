@@ -48,10 +48,10 @@ part_of_more two v = record {
   appended = v.appended;
 }
 
-module _ (order : CallOrder) (input bytes : List ℕ) (m : Source) (trees : List Form) (holds : Holds input m trees) (stream before : Option (List ℕ))
+module _ (may_fail : Type 0) (order : CallOrder) (input bytes : List ℕ) (m : Source) (trees : List Form) (holds : Holds input m trees) (stream before : Option (List ℕ))
     (known : stream ≡ Some bytes) where
   pub whole_prints : {after : Option (List ℕ)} {broken : Bool} {status : Status} → IsWhole order m stream before after broken status
-      → SendsOne (IsStreamOutput order input bytes) before after broken status
+      → SendsOne (IsStreamOutput may_fail order input bytes) before after broken status
   whole_prints {after} {broken} {status} w = record {
     text = answer_lines 1 w.answers;
     status = status;
@@ -62,9 +62,9 @@ module _ (order : CallOrder) (input bytes : List ℕ) (m : Source) (trees : List
 
   -- the first lines were written, and why the others were not judged
   cut_prints : {mid after : Option (List ℕ)} {mid_broken broken : Bool} {answer : Status} (why : Cut) (line : List ℕ) (status : Status)
-      → IsCutLine line status → (w : IsCutShort order m stream before mid mid_broken why)
+      → IsCutLine may_fail line status → (w : IsCutShort order m stream before mid mid_broken may_fail why)
       → WritesAll before mid mid_broken (answer_lines 1 w.answers)
-      → Sends mid after broken answer line status → SendsOne (IsStreamOutput order input bytes) before after broken answer
+      → Sends mid after broken answer line status → SendsOne (IsStreamOutput may_fail order input bytes) before after broken answer
   cut_prints why line status is w lines s = record {
     text = answer_lines 1 w.answers ++ line;
     status = status;
@@ -73,18 +73,18 @@ module _ (order : CallOrder) (input bytes : List ℕ) (m : Source) (trees : List
   }
 
   pub unread_prints : {mid after : Option (List ℕ)} {mid_broken broken : Bool} {answer : Status} (line : List ℕ) (status : Status)
-      → IsCutLine line status → IsCutShort order m stream before mid mid_broken cut.Unread
-      → Sends mid after broken answer line status → SendsOne (IsStreamOutput order input bytes) before after broken answer
+      → IsCutLine may_fail line status → IsCutShort order m stream before mid mid_broken may_fail cut.Unread
+      → Sends mid after broken answer line status → SendsOne (IsStreamOutput may_fail order input bytes) before after broken answer
   unread_prints line status is w s = cut_prints cut.Unread line status is w w.written s
 
   pub no_memory_prints : {mid after : Option (List ℕ)} {mid_broken broken : Bool} {answer : Status} (line : List ℕ) (status : Status)
-      → IsCutLine line status → IsCutShort order m stream before mid mid_broken cut.NoMemory
-      → Sends mid after broken answer line status → SendsOne (IsStreamOutput order input bytes) before after broken answer
+      → IsCutLine may_fail line status → IsCutShort order m stream before mid mid_broken may_fail cut.NoMemory
+      → Sends mid after broken answer line status → SendsOne (IsStreamOutput may_fail order input bytes) before after broken answer
   no_memory_prints line status is w s = cut_prints cut.NoMemory line status is w w.written s
 
   -- a beginning of the first lines was written
-  pub unwritten_prints : {after : Option (List ℕ)} {broken : Bool} → IsCutShort order m stream before after broken cut.Unwritten
-      → SendsOne (IsStreamOutput order input bytes) before after broken Lost
+  pub unwritten_prints : {after : Option (List ℕ)} {broken : Bool} → IsCutShort order m stream before after broken may_fail cut.Unwritten
+      → SendsOne (IsStreamOutput may_fail order input bytes) before after broken Lost
   unwritten_prints w = record {
     text = answer_lines 1 w.answers ++ memory_line;
     status = Lost;

@@ -7,7 +7,7 @@ use Rattle.std.specs.Prelude.{◌==◌, if◌then◌else◌}
 use Rattle.rayon.proofs.ListFacts.{AllZip-append}
 use Rattle.pst_cli.specs.KeepingOn.{answer_line, answer_lines, answer_status, worst_status}
 use Rattle.pst_cli.specs.Status.{or_worse}
-use Rattle.pst_cli.specs.Streaming.{AreCounted, IsCutShort, IsWhole, IsUnwritten, IsWrittenTo, cut_of}
+use Rattle.pst_cli.specs.Streaming.{AreCounted, IsCutShort, IsWhole, IsUnwritten, IsWrittenTo, MayCutBy, cut_of}
 use Rattle.pst_cli.specs.declared.answer.Status.{Status}
 use Rattle.pst_cli.specs.declared.answer.Status.TheVariants.{Accepted}
 use Rattle.pst_cli.specs.declared.stream.Cut.{Cut}
@@ -19,7 +19,7 @@ use Rattle.pst_model.specs.declared.model.Source.{Source}
 use Rattle.pst_sexpr.specs.Reading.{max_bytes}
 use Rattle.pst_sexpr.specs.Writing.{WritesAll, WritesPart}
 use Rattle.pst_rejudge.specs.StreamAnswers.{IsLineAnswer}
-use Rattle.pst_rejudge.specs.Blocks.{IsBlock, IsMiddleBlock, IsLastBlock}
+use Rattle.pst_rejudge.specs.Blocks.{IsBlock, IsMiddleBlock, IsLastBlock, MayStopBy}
 use Rattle.pst_rejudge.specs.Lines.{begun, ended, last_line, lines_of}
 use Rattle.pst_rejudge.specs.declared.stream_reading.StreamFault.{StreamFault}
 use Rattle.pst_rejudge.specs.declared.stream_reading.StreamFault.TheVariants as fault
@@ -181,12 +181,14 @@ module _ (order : CallOrder) (m : Source) (stream before : Option (List ℕ)) wh
     ]
 
     -- no block was had
-    pub stops : (why : Cut) → IsWrittenTo before mid mid_broken (answer_lines 1 come.answers) why → IsCutShort order m stream before mid mid_broken why
-    stops why w = record { first = ended [] come.bytes; front = front_of; answers = come.answers; answered = come.answered; written = w }
+    pub stops : (may_fail : Type 0) (why : Cut) → IsWrittenTo before mid mid_broken (answer_lines 1 come.answers) why → MayCutBy may_fail why
+        → IsCutShort order m stream before mid mid_broken may_fail why
+    stops may_fail why w may =
+        record { first = ended [] come.bytes; front = front_of; answers = come.answers; answered = come.answered; written = w; may_cut = may }
 
-    pub stops_by : (f : StreamFault) → IsCutShort order m stream before mid mid_broken (cut_of f)
-    stops_by fault.Unread = stops cut.Unread come.lines
-    stops_by fault.NoMemory = stops cut.NoMemory come.lines
+    pub stops_by : (may_fail : Type 0) (f : StreamFault) → MayStopBy may_fail f → IsCutShort order m stream before mid mid_broken may_fail (cut_of f)
+    stops_by may_fail fault.Unread may = stops may_fail cut.Unread come.lines may
+    stops_by may_fail fault.NoMemory may = stops may_fail cut.NoMemory come.lines tt
 
     -- the lines that end in one more block
     abbrev lines_with : (next : Option (List ℕ)) (new_kept : List ℕ) (is_last : Bool) (answers : List ItemResult)
@@ -219,12 +221,13 @@ module _ (order : CallOrder) (m : Source) (stream before : Option (List ℕ)) wh
         ]
 
     -- a block was read and judged, and not written
-    pub stops_in : (next : Option (List ℕ)) (new_kept : List ℕ) (after : Option (List ℕ)) (broken : Bool) (is_last : Bool) (answers : List ItemResult) (why : Cut)
+    pub stops_in : (may_fail : Type 0) (next : Option (List ℕ)) (new_kept : List ℕ) (after : Option (List ℕ)) (broken : Bool) (is_last : Bool)
+        (answers : List ItemResult) (why : Cut)
         → IsBlock order m left next (begun [] come.bytes) new_kept is_last answers
         → IsUnwritten mid after broken (answer_lines (written.count + 1) answers) why
-        → IsCutShort order m stream before after broken why
-    stops_in next new_kept after broken is_last answers cut.Unread block w = absurd w
-    stops_in next new_kept after broken is_last answers cut.NoMemory block w = record {
+        → IsCutShort order m stream before after broken may_fail why
+    stops_in may_fail next new_kept after broken is_last answers cut.Unread block w = absurd w
+    stops_in may_fail next new_kept after broken is_last answers cut.NoMemory block w = record {
       first = ended [] come.bytes;
       front = front_of;
       answers = come.answers;
@@ -233,11 +236,13 @@ module _ (order : CallOrder) (m : Source) (stream before : Option (List ℕ)) wh
         appended = subst (λ a. Appends before a (answer_lines 1 come.answers)) (sym w.0) come.lines.appended;
         stands = w.1;
       };
+      may_cut = tt;
     }
-    stops_in next new_kept after broken is_last answers cut.Unwritten block w = record {
+    stops_in may_fail next new_kept after broken is_last answers cut.Unwritten block w = record {
       first = lines_with next new_kept is_last answers block;
       front = front_with next new_kept is_last answers block;
       answers = come.answers ++ answers;
       answered = answered_with next new_kept is_last answers block;
       written = (part_of_lines before mid after mid_broken written.count come.answers answers come.count come.lines w.0, w.1);
+      may_cut = tt;
     }

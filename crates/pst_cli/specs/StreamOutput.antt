@@ -20,23 +20,24 @@ use Rattle.pst_rejudge.specs.Lines.{lines_of}
 abbrev pub unread_line : List ℕ
 unread_line = codes "refused file" ++ line_end
 
--- why the lines end before the stream does: the reader failed, or an allocation
-abbrev pub IsCutLine : List ℕ → Status → Type 0
-IsCutLine line status = ((line ≡ unread_line) × (status ≡ Refused)) ⊎ ((line ≡ memory_line) × (status ≡ Lost))
+-- why the lines end before the stream does: its source failed, if it may, or an allocation did
+abbrev pub IsCutLine : Type 0 → List ℕ → Status → Type 0
+IsCutLine may_fail line status =
+    (may_fail × (line ≡ unread_line) × (status ≡ Refused)) ⊎ ((line ≡ memory_line) × (status ≡ Lost))
 
 -- a line for each line of the stream, from 1: the verdict on its item, or its refusal; the same of the first lines alone, and
 -- why the others were not judged; or the refusal of the model
-pub data IsStreamOutput (order : CallOrder) (input bytes text : List ℕ) (status : Status) : Type 0 where
+pub data IsStreamOutput (may_fail : Type 0) (order : CallOrder) (input bytes text : List ℕ) (status : Status) : Type 0 where
   whole : (m : Source) (trees : List Form) (answers : List ItemResult) → Holds input m trees
       → AllZip (IsLineAnswer order m) (lines_of bytes) answers
       → text ≡ answer_lines 1 answers → status ≡ worst_status Accepted answers
-      → IsStreamOutput order input bytes text status
+      → IsStreamOutput may_fail order input bytes text status
   cut : (m : Source) (trees : List Form) (first rest : List (List ℕ)) (answers : List ItemResult) (line : List ℕ)
       → Holds input m trees → lines_of bytes ≡ first ++ rest → AllZip (IsLineAnswer order m) first answers
-      → IsCutLine line status → text ≡ answer_lines 1 answers ++ line
-      → IsStreamOutput order input bytes text status
+      → IsCutLine may_fail line status → text ≡ answer_lines 1 answers ++ line
+      → IsStreamOutput may_fail order input bytes text status
   refused : (refusal : Refusal) → IsRefusal input refusal → text ≡ refusal_line refusal → status ≡ Refused
-      → IsStreamOutput order input bytes text status
+      → IsStreamOutput may_fail order input bytes text status
 
 -- the lines and the status of a stream with one item on each line are those with `--keep-going` of an input with these items
 abbrev pub StreamsAreFiles : Type 0

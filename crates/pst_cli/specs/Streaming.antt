@@ -1,5 +1,5 @@
 -- What is written of a stream, block by block.
-use Rattle.std.specs.Prelude.{◌≡◌, ℕ, ◌+◌, Bool, true, false, List, ◌++◌, length, Option, Some, Result, MatchResult}
+use Rattle.std.specs.Prelude.{◌≡◌, ℕ, ◌+◌, Bool, true, false, List, ◌++◌, length, Option, Some, Result, MatchResult, ⊤}
 use Rattle.std.specs.List.{AllZip}
 use Rattle.pst_cli.specs.KeepingOn.{answer_lines, worst_status}
 use Rattle.pst_cli.specs.declared.answer.Status.{Status}
@@ -46,6 +46,12 @@ EndsBlock old answers before after broken result =
     (λ new. AreCounted old answers new × WritesAll before after broken (answer_lines (old.count + 1) answers))
     (IsUnwritten before after broken (answer_lines (old.count + 1) answers))
 
+-- the lines may end for this reason: the source of the stream fails only if it may
+abbrev pub MayCutBy : Type 0 → Cut → Type 0
+MayCutBy may_fail Unread = may_fail
+MayCutBy may_fail NoMemory = ⊤
+MayCutBy may_fail Unwritten = ⊤
+
 module _ (order : CallOrder) (m : Source) (stream before after : Option (List ℕ)) (broken : Bool) where
   -- all lines of the stream are answered, and the lines of the answers were written
   pub record IsWhole (status : Status) : Type 0 where
@@ -57,13 +63,14 @@ module _ (order : CallOrder) (m : Source) (stream before after : Option (List �
     pub worst : status ≡ worst_status Accepted answers
 
   -- the first lines of the stream are answered, and the lines of the answers were written, or a beginning of them
-  pub record IsCutShort (cut : Cut) : Type 0 where
+  pub record IsCutShort (may_fail : Type 0) (cut : Cut) : Type 0 where
     pub first : List (List ℕ)
     pub front : (bytes : List ℕ) → stream ≡ Some bytes → (rest : List (List ℕ)) × (lines_of bytes ≡ first ++ rest)
     pub answers : List ItemResult
     pub answered : AllZip (IsLineAnswer order m) first answers
     pub written : IsWrittenTo before after broken (answer_lines 1 answers) cut
+    pub may_cut : MayCutBy may_fail cut
 
   -- one of these
-  abbrev pub EndsStream : Result Status Cut → Type 0
-  EndsStream result = MatchResult result IsWhole IsCutShort
+  abbrev pub EndsStream : Type 0 → Result Status Cut → Type 0
+  EndsStream may_fail result = MatchResult result IsWhole (IsCutShort may_fail)

@@ -13,10 +13,11 @@ use crate::input::{compile_model_of_input, prove_compiled_models_are_sync};
 use crate::keep::{numbered_item_result_lines, worst_status_after_item_results};
 use pst_compile::Compiled;
 use pst_judge::{CallOrder, Judge};
-use pst_rejudge::{ItemResult, ProgressCounter, StreamFault, read_once_and_judge_ended_lines};
+use pst_rejudge::{
+    BlockSource, ItemResult, ProgressCounter, StreamFault, read_once_and_judge_ended_lines,
+};
 use pst_sexpr::{Sink, WriteFailed, put_all};
 use std::alloc::{AllocError, Global};
-use std::io::Read;
 use std::thread::Threads;
 
 /// How many bytes are read at once. Each line of a read takes memory until its verdict is written, however short it is.
@@ -25,7 +26,7 @@ const BUFFER: usize = 65_536;
 /// Why the lines end before the stream does.
 #[derive(Clone, Copy, Debug, PartialEq, Eq, Drop)]
 pub(crate) enum Cut {
-    /// The reader failed.
+    /// The source failed.
     Unread,
     /// An allocation failed.
     NoMemory,
@@ -81,21 +82,21 @@ fn cut_for_stream_fault(fault: StreamFault) -> Cut
     }
 }
 
-/// Writes the line of each item of the reader as it comes, and returns the worst of their statuses; or why the lines
-/// end before the reader does. `refused` gets the refused lines.
-fn judge_stream_and_write_lines<I: Read, W: Sink, R: Threads + Sync, L: RefusedLineReceiver>(
+/// Writes the line of each item of the source as it comes, and returns the worst of their statuses; or why the lines
+/// end before the source does. `refused` gets the refused lines.
+fn judge_stream_and_write_lines<I: BlockSource, W: Sink, R: Threads + Sync, L: RefusedLineReceiver>(
     rt: &R,
     alloc: Global,
     judge: &Judge<'_, Compiled>,
-    reader: &mut I,
+    source: &mut I,
     counts: &mut ItemResultCounts,
     steps: &ProgressCounter,
     refused: &mut L,
     sink: &mut W,
 ) -> Result<Status, Cut>
     requires { W.broken sink.old ≡ false }
-    ensures { EndsStream judge.now.order judge.now.callbacks.now (I.remaining reader.old) (W.taken sink.old) (W.taken sink.new)
-        (W.broken sink.new) result }
+    ensures { EndsStream judge.now.order judge.now.callbacks.now (I.remaining source.old) (W.taken sink.old) (W.taken sink.new)
+        (W.broken sink.new) I.may_fail result }
 {
     let Ok(mut buffer) = vec![in alloc; 0u8; BUFFER] else {
         return Err(Cut::NoMemory);
@@ -113,7 +114,7 @@ fn judge_stream_and_write_lines<I: Read, W: Sink, R: Threads + Sync, L: RefusedL
             judge,
             alloc,
             judge.callbacks.typed(),
-            reader,
+            source,
             buffer.as_mut_slice(),
             &mut kept,
         ) {
@@ -141,12 +142,12 @@ fn judge_stream_and_write_lines<I: Read, W: Sink, R: Threads + Sync, L: RefusedL
     Err(Cut::NoMemory)
 }
 
-/// Writes the lines of the items of a reader, and after them why they end before the reader does, if they do.
-fn write_stream<I: Read, W: Sink, R: Threads + Sync, L: RefusedLineReceiver>(
+/// Writes the lines of the items of a source, and after them why they end before the source does, if they do.
+fn write_stream<I: BlockSource, W: Sink, R: Threads + Sync, L: RefusedLineReceiver>(
     rt: &R,
     alloc: Global,
     judge: &Judge<'_, Compiled>,
-    reader: &mut I,
+    source: &mut I,
     counts: &mut ItemResultCounts,
     steps: &ProgressCounter,
     refused: &mut L,
@@ -154,10 +155,10 @@ fn write_stream<I: Read, W: Sink, R: Threads + Sync, L: RefusedLineReceiver>(
 ) -> Status
     requires { W.broken sink.old ≡ false }
     ensures { (input bytes : List ℕ) (trees : List Form) → Holds input judge.now.callbacks.now trees
-        → I.remaining reader.old ≡ Some bytes
-        → SendsOne (IsStreamOutput judge.now.order input bytes) (W.taken sink.old) (W.taken sink.new) (W.broken sink.new) result }
+        → I.remaining source.old ≡ Some bytes
+        → SendsOne (IsStreamOutput I.may_fail judge.now.order input bytes) (W.taken sink.old) (W.taken sink.new) (W.broken sink.new) result }
 {
-    match judge_stream_and_write_lines(rt, alloc, judge, reader, counts, steps, refused, sink) {
+    match judge_stream_and_write_lines(rt, alloc, judge, source, counts, steps, refused, sink) {
         Ok(status) => status,
         Err(Cut::Unread) => send_text(b"refused file\n", Status::Refused, sink),
         Err(Cut::NoMemory) => send_text(MEMORY_LINE, Status::Lost, sink),
@@ -165,30 +166,30 @@ fn write_stream<I: Read, W: Sink, R: Threads + Sync, L: RefusedLineReceiver>(
     }
 }
 
-/// Judges the items of a reader by an order, one on each line, over the model at the start of the input. For each line, from 1,
+/// Judges the items of a source by an order, one on each line, over the model at the start of the input. For each line, from 1,
 /// writes `NUMBER VERDICT`, or `refused run NUMBER command C KIND`. Refuses a line as `BadForm` if it spells no item or
-/// more than one, or is longer than a file may be. Judges all lines that end within one read of the reader, several at
-/// once, and writes their verdicts before the next read; keeps no more of the reader in memory. `refused` then gets the
+/// more than one, or is longer than a file may be. Judges all lines that end within one block, several at
+/// once, and writes their verdicts before it reads the next; keeps no more of the source in memory. `refused` then gets the
 /// refused lines. Ignores the items after the model in the input. Writes to the file if there is one, else to `out`.
 ///
 /// The status is the worst of all lines, as in `judge_text_keep_going`. If the model is refused, writes its refusal
-/// alone to `out`. If the reader fails, writes `refused file` after the lines so far, with the status `Refused`. If an
+/// alone to `out`. If the source fails, writes `refused file` after the lines so far, with the status `Refused`. If an
 /// allocation fails, writes `refused memory` after them, with the status `Lost`; alone and to `out` if it fails before
-/// the reader is read. The status is also `Lost` if the writer fails.
-pub fn judge_stream<I: Read, F: Sink, W: Sink, R: Threads + Sync, L: RefusedLineReceiver>(
+/// the source is read. The status is also `Lost` if the writer fails.
+pub fn judge_stream<I: BlockSource, F: Sink, W: Sink, R: Threads + Sync, L: RefusedLineReceiver>(
     rt: &R,
     alloc: Global,
     input: &[u8],
     order: CallOrder,
-    reader: &mut I,
+    source: &mut I,
     counts: &mut ItemResultCounts,
     steps: &ProgressCounter,
     refused: &mut L,
     to: &mut Destinations<F, W>,
 ) -> Status
     requires stands { Stands F.broken W.broken to.old }
-    ensures prints { (bytes : List ℕ) → I.remaining reader.old ≡ Some bytes
-        → Reaches memory_line (IsStreamOutput order input.now bytes)
+    ensures prints { (bytes : List ℕ) → I.remaining source.old ≡ Some bytes
+        → Reaches memory_line (IsStreamOutput I.may_fail order input.now bytes)
         (Delivers F.taken F.broken W.taken W.broken to.old to.new result) }
 {
     let compiled = match compile_model_of_input(alloc, input) {
@@ -199,12 +200,12 @@ pub fn judge_stream<I: Read, F: Sink, W: Sink, R: Threads + Sync, L: RefusedLine
     let callbacks = &compiled;
     let judge = Judge { callbacks, order };
     match &mut to.file {
-        Some(file) => write_stream(rt, alloc, &judge, reader, counts, steps, refused, file),
+        Some(file) => write_stream(rt, alloc, &judge, source, counts, steps, refused, file),
         None => write_stream(
             rt,
             alloc,
             &judge,
-            reader,
+            source,
             counts,
             steps,
             refused,

@@ -20,6 +20,7 @@ mod json_places;
 mod later_state;
 mod message;
 mod missing_keys;
+mod missing_model;
 mod preconditions;
 mod scripts;
 mod spelling;
@@ -31,8 +32,7 @@ pub use broken::{first_broken_item_result_and_count_message, first_broken_run_an
 pub use faults::explanation_why_trial_has_no_case;
 pub use json_input::{ItemInput, files_with_json_as_trees, find_first_line_like_json_item};
 pub use later_state::model_beginning_after_call;
-pub use message::{
-    MessageScope, has_model_at_start, input_error_messages_text, input_error_notices,
-};
+pub use message::{MessageScope, input_error_messages_text, input_error_notices};
+pub use missing_model::has_model_at_start;
 pub use preconditions::{precondition_warnings_on_item_results, precondition_warnings_on_runs};
 pub use warning::{input_warning_notices, input_warnings_text};

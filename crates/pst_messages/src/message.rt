@@ -1,20 +1,19 @@
 //! The messages on refused inputs.
 
 use crate::bytes::{ByteFault, byte_fault_of_sexpr_fault};
-use crate::item_hints::{is_model_tree, replace_notes_by_hint_if_misplaced};
+use crate::item_hints::replace_notes_by_hint_if_misplaced;
 use crate::json_input::{errors_of_input_with_json_items, find_first_line_like_json_item};
+use crate::missing_model::model_form_problems_with_hints;
 use pst_model::Typed;
 use pst_run_problems::refused_case_or_run_problem;
 use pst_runs::{RunFault, read_runs};
 use pst_sexpr::{FaultKind, Form, SexprFault, Tree, read};
 use pst_sources::{
-    Input, Notice, Notices, SourceFile, Span, deepest_span_on_path_in_tree, head_of_first_item,
+    Input, Notice, Notices, SourceFile, Span, deepest_span_on_path_in_tree,
     span_at_path_or_whole_input, text_of_notices_if_any, tree_at,
 };
 use pst_syntax::read_model;
-use pst_syntax_problems::{
-    MOST_PROBLEMS, Problem, first_model_syntax_problems, with_call_or_assignment_hint_if_meant,
-};
+use pst_syntax_problems::{MOST_PROBLEMS, Problem, with_call_or_assignment_hint_if_meant};
 use pst_type_problems::type_problems_from_item_on;
 use pst_typing::{ModelFile, Refusal, load, trees_after_model};
 use std::alloc::{AllocError, Global};
@@ -74,79 +73,6 @@ fn notices_on_first_model_problems(
         }
     }
     Ok(notices)
-}
-
-/// Whether a text begins with a model.
-pub fn has_model_at_start(bytes: &[u8]) -> bool {
-    matches!(head_of_first_item(bytes), Some("model" | "model2"))
-}
-
-/// The name of the first file that begins with a model, if the input does not.
-fn name_of_misplaced_model_file<'a>(input: &Input<'a>) -> Option<&'a str> {
-    if has_model_at_start(input.bytes) {
-        return None;
-    }
-    for file in input.files {
-        if has_model_at_start(file.bytes.as_slice()) {
-            return Some(file.name);
-        }
-    }
-    None
-}
-
-/// Whether one of the trees is a model.
-fn has_model_tree(trees: &[Tree]) -> bool {
-    trees.iter().any(|tree| is_model_tree(tree))
-}
-
-/// The problems, each with the note `hint`.
-fn problems_with_hint(
-    alloc: Global,
-    problems: Vec<Problem>,
-    hint: &str,
-) -> Result<Vec<Problem>, AllocError> {
-    let mut noted = Vec::new(alloc);
-    for problem in problems {
-        noted.push(problem.with(alloc, hint)?)?;
-    }
-    Ok(noted)
-}
-
-/// Whether a text begins with a case or a run.
-fn has_case_or_run_at_start(bytes: &[u8]) -> bool {
-    match head_of_first_item(bytes) {
-        Some(head) => head == "case" || head == "run",
-        None => false,
-    }
-}
-
-/// The hint to name the model's file first, if the input begins with no model.
-fn hint_on_missing_model_file(input: &Input<'_>, trees: &[Tree]) -> Option<&'static str> {
-    if trees.is_empty() && input.files.len() > 1 {
-        return Some("hint: the model's file comes first");
-    }
-    if has_case_or_run_at_start(input.bytes) && !has_model_tree(trees) {
-        return Some("hint: name the model's file first");
-    }
-    None
-}
-
-/// The problems of a model that is refused for its form. If the input begins with no model but one of its files does, a
-/// hint names that file.
-fn model_form_problems_with_hints(
-    alloc: Global,
-    input: &Input<'_>,
-    trees: &[Tree],
-) -> Result<Vec<Problem>, AllocError> {
-    let problems = first_model_syntax_problems(alloc, trees)?;
-    if let Some(name) = name_of_misplaced_model_file(input) {
-        let hint = format!(in alloc; "hint: `{name}` begins with a model: name this file first")?;
-        return problems_with_hint(alloc, problems, hint.as_str());
-    }
-    match hint_on_missing_model_file(input, trees) {
-        Some(hint) => problems_with_hint(alloc, problems, hint),
-        None => Ok(problems),
-    }
 }
 
 /// The problems of an ill-typed model, with hints on calls and assignments in the style of other languages.

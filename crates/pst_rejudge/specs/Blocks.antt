@@ -1,8 +1,10 @@
 -- What is answered of the lines that end in a block of a stream.
-use Rattle.std.specs.Prelude.{◌≡◌, ℕ, suc, Bool, true, false, List, Option, take}
+use Rattle.std.specs.Prelude.{◌≡◌, ℕ, suc, Bool, true, false, List, Option, take, ⊤}
 use Rattle.std.specs.Io.KnownBytes.{Consumes, IsAtEnd}
 use Rattle.std.specs.List.{AllZip}
 use Rattle.pst_rejudge.specs.declared.reading.ItemResult.{ItemResult}
+use Rattle.pst_rejudge.specs.declared.stream_reading.StreamFault.{StreamFault}
+use Rattle.pst_rejudge.specs.declared.stream_reading.StreamFault.TheVariants.{Unread, NoMemory}
 use Rattle.pst_judge.specs.declared.by_order.CallOrder.{CallOrder}
 use Rattle.pst_model.specs.declared.model.Source.{Source}
 use Rattle.pst_sexpr.specs.Reading.{max_bytes}
@@ -26,3 +28,8 @@ module _ (order : CallOrder) (m : Source) (before after : Option (List ℕ)) (li
   abbrev pub IsBlock : Bool → List ItemResult → Type 0
   IsBlock true answers = IsLastBlock answers
   IsBlock false answers = IsMiddleBlock answers
+
+-- a block may be missing for this reason: the source failed, if it may, or an allocation did
+abbrev pub MayStopBy : Type 0 → StreamFault → Type 0
+MayStopBy may_fail Unread = may_fail
+MayStopBy may_fail NoMemory = ⊤

@@ -31,7 +31,9 @@ pub use sharing::prove_models_are_sync;
 use std::alloc::{AllocError, Global};
 use std::thread::Threads;
 pub use steps::ProgressCounter;
-pub use stream_reading::{Block, StreamFault, read_once_and_judge_ended_lines};
+pub use stream_reading::{
+    Block, BlockSource, ReaderBlocks, StreamFault, Unread, read_once_and_judge_ended_lines,
+};
 pub use verdict_fields::{
     accepted_model_fields, judged_item_fields, refused_item_fields, refused_model_fields,
 };

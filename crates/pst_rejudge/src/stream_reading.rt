@@ -1,9 +1,9 @@
 //! Reads a stream in blocks of lines, splits the blocks into lines, and judges the lines that have ended.
-ghost use Rattle.std.specs.Prelude.{◌≡◌, ◌<◌, ℕ, suc, List, length, take, IfOk, [], ◌∷◌, ◌++◌, map, OnOk, ◌≤◌, OnErr};
-ghost use Rattle.pst_rejudge.specs.Blocks.{IsBlock};
+ghost use Rattle.std.specs.Prelude.{◌≡◌, ◌<◌, ℕ, suc, List, length, take, IfErr, IfOk, [], ◌∷◌, ◌++◌, map, OnOk, ◌≤◌};
+ghost use Rattle.pst_rejudge.specs.Blocks.{IsBlock, MayStopBy};
 ghost use Rattle.pst_sexpr.specs.Reading.{max_bytes};
 ghost use Rattle.pst_rejudge.specs.Lines.{begun, ended, last_line};
-ghost use Rattle.std.specs.Io.KnownBytes.{Consumes, IsAtEnd, Keeps};
+ghost use Rattle.std.specs.Io.KnownBytes.{Consumes, IsAtEnd};
 
 use crate::reading::ItemResult;
 use crate::stream_judging::judge_items_on_lines;
@@ -37,23 +37,78 @@ pub enum StreamFault {
 }
 
 impl From<AllocError> for StreamFault {
+    ghost use Rattle.std.specs.Prelude.{◌≡◌};
+    ghost use Rattle.pst_rejudge.specs.declared.stream_reading.StreamFault.TheVariants.{NoMemory};
+
+    ghost from_gives = { λ _ e. e ≡ NoMemory };
+
     fn from(_refused: AllocError) -> StreamFault {
         StreamFault::NoMemory
     }
 }
 
 impl From<Unread> for StreamFault {
+    ghost use Rattle.std.specs.Prelude.{◌≡◌};
+    ghost use Rattle.pst_rejudge.specs.declared.stream_reading.StreamFault.TheVariants as fault;
+
+    ghost from_gives = { λ _ e. e ≡ fault.Unread };
+
     fn from(_failed: Unread) -> StreamFault {
         StreamFault::Unread
     }
 }
 
-/// Reads once, and judges the lines that end in the bytes read, several at once. The end of the reader ends the
+/// A source that failed.
+#[derive(Clone, Copy, Debug, PartialEq, Eq, Drop)]
+pub struct Unread;
+
+/// A source of bytes, read in blocks.
+///
+/// Whether it may fail is known of all sources of the type.
+pub trait BlockSource {
+    ghost use Rattle.std.specs.Prelude.{◌≡◌, ◌≤◌, ◌<◌, ℕ, List, Option, IfErr, IfOk, length, take};
+    ghost use Rattle.std.specs.Io.KnownBytes.{Consumes, IsAtEnd};
+
+    /// The bytes that are left, if they are known.
+    ghost remaining: { Self → Option (List ℕ) };
+
+    /// That a source of this type may fail.
+    ghost may_fail: { Type 0 };
+
+    /// Reads bytes to the front of `buffer`, and returns how many; 0 is the end.
+    fn read_block(&mut self, buffer: &mut [u8]) -> Result<usize, Unread>
+        ensures within { IfOk result (λ count. count ≤ length buffer.new) }
+        ensures read { IfOk result (λ count.
+            Consumes (remaining self.old) (remaining self.new) (take count buffer.new)) }
+        ensures end { IfOk result (λ count. count ≡ 0 → 0 < length buffer.old → IsAtEnd (remaining self.new)) }
+        ensures failed { IfErr result (λ _. may_fail) };
+}
+
+/// The bytes of a reader, which may fail at any time.
+#[derive(Drop)]
+pub struct ReaderBlocks<I> {
+    /// The reader.
+    pub reader: I,
+}
+
+impl<I: Read> BlockSource for ReaderBlocks<I> {
+    ghost use Rattle.std.specs.Prelude.{⊤};
+
+    ghost remaining = { λ blocks. I.remaining blocks.reader };
+
+    ghost may_fail = { ⊤ };
+
+    fn read_block(&mut self, buffer: &mut [u8]) -> Result<usize, Unread> {
+        read_once_despite_interruptions(&mut self.reader, buffer)
+    }
+}
+
+/// Reads once, and judges the lines that end in the bytes read, several at once. The end of the source ends the
 /// last line, if one has begun. `buffer` receives the bytes, and `kept` is the beginning of the line that has
 /// not ended, at first empty.
 ///
 /// `typed` is the model of the judge's callbacks. After a fault the stream cannot be continued.
-pub fn read_once_and_judge_ended_lines<I: Read, C: Callbacks + Sync, R: Threads + Sync>(
+pub fn read_once_and_judge_ended_lines<I: BlockSource, C: Callbacks + Sync, R: Threads + Sync>(
     rt: &R,
     judge: &Judge<'_, C>,
     alloc: Global,
@@ -68,8 +123,9 @@ pub fn read_once_and_judge_ended_lines<I: Read, C: Callbacks + Sync, R: Threads 
     ensures block { IfOk result (λ block. (line : List ℕ) → kept.old.items ≡ take (suc max_bytes) line
         → IsBlock judge.now.order (C.model judge.now.callbacks.now) (I.remaining reader.old) (I.remaining reader.new) line kept.new.items
         block.is_last block.answers.items) }
+    ensures fault { IfErr result (MayStopBy I.may_fail) }
 {
-    let count = read_once_despite_interruptions(reader, buffer)?;
+    let count = reader.read_block(buffer)?;
     if count == 0 {
         let lines = take_last_unended_line(alloc, kept)?;
         let answers = judge_items_on_lines(rt, judge, alloc, typed, lines.as_slice())?;
@@ -174,10 +230,6 @@ fn take_last_unended_line(alloc: Global, kept: &mut Vec<u8>) -> Result<Vec<Vec<u
     Ok(lines)
 }
 
-/// The reader failed.
-#[derive(Clone, Copy, Debug, PartialEq, Eq, Drop)]
-pub(crate) struct Unread;
-
 /// Reads once, and again if a signal interrupts the read. Returns how many bytes are at the front of `buffer`;
 /// 0 is the end.
 fn read_once_despite_interruptions<R: Read>(
@@ -188,7 +240,6 @@ fn read_once_despite_interruptions<R: Read>(
     ensures read { IfOk result (λ count.
         Consumes (R.remaining reader.old) (R.remaining reader.new) (take count buffer.new)) }
     ensures end { IfOk result (λ count. count ≡ 0 → 0 < length buffer.old → IsAtEnd (R.remaining reader.new)) }
-    ensures failed { OnErr result (Keeps (R.remaining reader.old) (R.remaining reader.new)) }
 {
     for _turn in 0..u64::MAX {
         match reader.read(buffer) {

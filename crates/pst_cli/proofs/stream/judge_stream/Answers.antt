@@ -10,7 +10,7 @@ use Rattle.pst_cli.proofs.stream.judge_stream.Goals as goal
 pub returns-in-Ok-Err : goal.returns-in-Ok-Err
 returns-in-Ok-Err g c = record {
   prints = λ bytes known.
-      let IsSo = IsStreamOutput c.args.order c.args.input.now bytes in
+      let IsSo = IsStreamOutput g.I.BlockSource.may_fail c.args.order c.args.input.now bytes in
       let line = refusal_line c.in-Ok-Err.refusal in
       reaches _ IsSo _ c.refusal_answer.result
       (if_ok_then (IsRefusalBy line Refused) (Answers IsSo)
@@ -21,13 +21,13 @@ returns-in-Ok-Err g c = record {
 pub returns-in-Some : goal.returns-in-Some
 returns-in-Some g c = record {
   prints = λ bytes known.
-      file_reached _ _ _ _ _ (IsStreamOutput c.args.order c.args.input.now bytes) _ _ _ c.in-Some.file c.write_stream.new.sink c.in-Some.is refl refl
+      file_reached _ _ _ _ _ (IsStreamOutput g.I.BlockSource.may_fail c.args.order c.args.input.now bytes) _ _ _ c.in-Some.file c.write_stream.new.sink c.in-Some.is refl refl
       (c.write_stream.ensures c.args.input.now bytes c.in-Ok-Ok.file.trees.items (rw c.in-Ok-Ok.field-0-is at c.in-Ok-Ok.ensures) known);
 }
 
 pub returns : goal.returns
 returns g c = record {
   prints = λ bytes known.
-      out_reached _ _ _ _ _ (IsStreamOutput c.args.order c.args.input.now bytes) _ _ _ c.in-None.is refl
+      out_reached _ _ _ _ _ (IsStreamOutput g.I.BlockSource.may_fail c.args.order c.args.input.now bytes) _ _ _ c.in-None.is refl
       (c.write_stream-in-None.ensures c.args.input.now bytes c.in-Ok-Ok.file.trees.items (rw c.in-Ok-Ok.field-0-is at c.in-Ok-Ok.ensures) known);
 }

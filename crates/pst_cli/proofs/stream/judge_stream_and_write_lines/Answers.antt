@@ -7,25 +7,25 @@ use Rattle.pst_cli.proofs.stream.judge_stream_and_write_lines.Goals as goal
 
 pub returns-in_default : goal.returns-in_default
 returns-in_default g c =
-    let here = begins c.args.judge.now.order c.args.judge.now.callbacks.now (g.I.Read.remaining c.args.reader.now) (g.W.Sink.taken c.args.sink.now) (g.W.Sink.broken c.args.sink.now) [] _ c.requires refl refl in
-    stops _ _ _ _ _ _ _ _ _ here cut.NoMemory here.lines
+    let here = begins c.args.judge.now.order c.args.judge.now.callbacks.now (g.I.BlockSource.remaining c.args.source.now) (g.W.Sink.taken c.args.sink.now) (g.W.Sink.broken c.args.sink.now) [] _ c.requires refl refl in
+    stops _ _ _ _ _ _ _ _ _ here _ cut.NoMemory here.lines tt
 
 pub loop-turn-init : goal.loop-turn-init
 loop-turn-init g c = record {
   room = search rules;
   stands = c.requires;
-  come = begins c.args.judge.now.order c.args.judge.now.callbacks.now (g.I.Read.remaining c.args.reader.now) (g.W.Sink.taken c.args.sink.now) (g.W.Sink.broken c.args.sink.now) _ _ c.requires c.new-kept.ensures.items refl;
+  come = begins c.args.judge.now.order c.args.judge.now.callbacks.now (g.I.BlockSource.remaining c.args.source.now) (g.W.Sink.taken c.args.sink.now) (g.W.Sink.broken c.args.sink.now) _ _ c.requires c.new-kept.ensures.items refl;
 }
 
 pub returns-in-Err : goal.returns-in-Err
 returns-in-Err g c =
-    subst (λ (why : Cut). IsCutShort c.args.judge.now.order c.args.judge.now.callbacks.now (g.I.Read.remaining c.args.reader.now) (g.W.Sink.taken c.args.sink.now) (g.W.Sink.taken c.loop-turn.sink) (g.W.Sink.broken c.loop-turn.sink) why)
-    (sym c.cut_for_stream_fault.ensures) (stops_by _ _ _ _ _ _ _ _ _ c.loop-turn.invariant.come c.in-Err.fault)
+    subst (λ (why : Cut). IsCutShort c.args.judge.now.order c.args.judge.now.callbacks.now (g.I.BlockSource.remaining c.args.source.now) (g.W.Sink.taken c.args.sink.now) (g.W.Sink.taken c.loop-turn.sink) (g.W.Sink.broken c.loop-turn.sink) g.I.BlockSource.may_fail why)
+    (sym c.cut_for_stream_fault.ensures) (stops_by _ _ _ _ _ _ _ _ _ c.loop-turn.invariant.come _ c.in-Err.fault c.in-Err.ensures.fault)
 
 pub returns-in-Err-write_item_result_lines_of_block : goal.returns-in-Err-write_item_result_lines_of_block
 returns-in-Err-write_item_result_lines_of_block g c =
     let come = c.loop-turn.invariant.come in
-    stops_in _ _ _ _ _ _ _ _ _ come _ _ _ _ _ _ c.in-Err-write_item_result_lines_of_block.cut (c.in-Ok-read_once_and_judge_ended_lines.ensures.block _ come.kept_line)
+    stops_in _ _ _ _ _ _ _ _ _ come _ _ _ _ _ _ _ c.in-Err-write_item_result_lines_of_block.cut (c.in-Ok-read_once_and_judge_ended_lines.ensures.block _ come.kept_line)
     (rw c.as_slice-answers.ensures.value at c.in-Err-write_item_result_lines_of_block.ensures)
 
 pub returns-then-block : goal.returns-then-block
@@ -49,4 +49,4 @@ loop-turn-preserved g c =
 pub returns : goal.returns
 returns g c =
     let come = c.loop-turn.invariant.come in
-    stops _ _ _ _ _ _ _ _ _ come cut.NoMemory come.lines
+    stops _ _ _ _ _ _ _ _ _ come _ cut.NoMemory come.lines tt

@@ -6,6 +6,6 @@ abbrev pub invariant-loop-turn : goal.invariant-loop-turn
 invariant-loop-turn g l = record {
   room : 0 < vec_len l.buffer;
   stands : g.W.Sink.broken l.sink ≡ false;
-  come : HasCome l.judge.order l.judge.callbacks.now (g.I.Read.remaining l.initial.reader) (g.I.Read.remaining l.reader) (g.W.Sink.taken l.initial.sink)
+  come : HasCome l.judge.order l.judge.callbacks.now (g.I.BlockSource.remaining l.initial.source) (g.I.BlockSource.remaining l.source) (g.W.Sink.taken l.initial.sink)
       (g.W.Sink.taken l.sink) (g.W.Sink.broken l.sink) l.kept.items l.written;
 }
