@@ -2,7 +2,7 @@
 
 use crate::allowing::WrongAnswer;
 use crate::cores::{Core, CoreAnswer};
-use crate::parts::add_marked_run_text;
+use crate::parts::{MarkedRun, add_marked_run_text};
 use pst_model::Source;
 use pst_reasons::AllowedValues;
 use pst_scene::{
@@ -200,6 +200,7 @@ fn add_core_and_marked_run_text(
     page: &mut Page,
     alloc: Global,
     scene: &Scene<'_>,
+    is_timed: bool,
     core: &Core<'_>,
 ) -> Result<(), AllocError> {
     page.add_wrapped_sentence(
@@ -210,7 +211,12 @@ fn add_core_and_marked_run_text(
     add_core_answers_text(page, alloc, scene, core)?;
     add_sentences_before_marked_run(page, alloc, core)?;
     let numbers = core.command_numbers(alloc)?;
-    add_marked_run_text(page, alloc, scene, numbers.as_slice())
+    let run = MarkedRun {
+        scene,
+        is_timed,
+        marked: numbers.as_slice(),
+    };
+    add_marked_run_text(page, alloc, &run)
 }
 
 /// Adds a core, and the run with the commands of the core marked. `None` if the search of the core takes too many steps.
@@ -218,14 +224,20 @@ pub fn add_optional_core_and_run_text(
     page: &mut Page,
     alloc: Global,
     scene: &Scene<'_>,
+    is_timed: bool,
     core: Option<&Core<'_>>,
 ) -> Result<(), AllocError> {
     match core {
-        Some(core) => add_core_and_marked_run_text(page, alloc, scene, core),
+        Some(core) => add_core_and_marked_run_text(page, alloc, scene, is_timed, core),
         None => {
             page.add_wrapped_sentence(alloc, 2, NO_CORE.as_bytes())?;
             page.add_wrapped_sentence(alloc, 2, b"The run:")?;
-            add_marked_run_text(page, alloc, scene, &[])
+            let run = MarkedRun {
+                scene,
+                is_timed,
+                marked: &[],
+            };
+            add_marked_run_text(page, alloc, &run)
         }
     }
 }

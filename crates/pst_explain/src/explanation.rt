@@ -25,7 +25,7 @@ use pst_judge::{
 };
 use pst_model::Typed;
 use pst_precedence::Obstacles;
-use pst_reasons::{Order, RecordedRun};
+use pst_reasons::{AnyOrder, Order, RecordedRun};
 use pst_scene::{CasePart, Scene, call_numbered, scene_of_run};
 use std::alloc::{AllocError, Global};
 
@@ -123,6 +123,17 @@ pub struct Explanation<'a> {
     pub obstacles: Option<Obstacles>,
 }
 
+impl<'a> Explanation<'a> {
+    /// Which interleavings count.
+    pub fn call_order(&self) -> CallOrder {
+        if self.is_timed {
+            CallOrder::Time
+        } else {
+            CallOrder::Any
+        }
+    }
+}
+
 /// Returns a core, unless the steps of the callbacks do not last for it.
 fn core_within_step_limit<'a, C: Callbacks, O: Order>(
     run: &RecordedRun<'_, StepLimitedCallbacks<'_, C>, O>,
@@ -164,7 +175,7 @@ fn failure_in_first_faulting_interleaving<'a, C: Callbacks, O: Order>(
             interleaving.push(branch)?;
         }
     }
-    failure_at_fault_place(alloc, scene, interleaving.as_slice(), place)
+    failure_at_fault_place(alloc, run.order, scene, interleaving.as_slice(), place)
 }
 
 /// Returns the first fault of a run that no interleaving in order explains, and a core.
@@ -270,6 +281,7 @@ fn explain_invalid_case<'a>(
             let interleaving = merge.as_slice();
             let failure = failure_of_call_in_interleaving(
                 alloc,
+                &AnyOrder,
                 scene,
                 interleaving,
                 Callback::Pre,
@@ -279,7 +291,13 @@ fn explain_invalid_case<'a>(
             Ok(JudgementReason::Invalid(failure))
         }
         Why::CallbackFault { place, merge } => {
-            let failure = failure_at_fault_place(alloc, scene, merge.as_slice(), *place)?;
+            let failure = failure_at_fault_place(
+                alloc,
+                &AnyOrder,
+                scene,
+                merge.as_slice(),
+                *place,
+            )?;
             Ok(JudgementReason::Invalid(failure))
         }
         Why::NoMemory => Ok(JudgementReason::Nothing),

@@ -8,6 +8,7 @@ use crate::walk_text::add_interleaving_states_text;
 use pst_case::{Case, CaseFaultKind, Command, Run, shape};
 use pst_eval::{Callback, FaultPlace};
 use pst_model::{Source, Typed};
+use pst_reasons::AnyOrder;
 use pst_scene::{
     Binding, Call, CasePart, Page, Scene, Table, add_interleaving_letters_or_dash, add_str,
     copy_explanation_text, expression_text, join_explanation_parts, row_of_two_plain_cells,
@@ -254,7 +255,7 @@ fn failure_after_script<'a>(
 ) -> Result<Failure<'a>, AllocError> {
     match place.callback {
         Callback::Command => command_callback_failure_after_script(alloc, scene, place.fault),
-        _ => failure_at_fault_place(alloc, scene, &[], place),
+        _ => failure_at_fault_place(alloc, &AnyOrder, scene, &[], place),
     }
 }
 

@@ -7,6 +7,7 @@ use crate::walks::{
 use pst_case::Reply;
 use pst_eval::{Callback, Env, FaultPlace};
 use pst_model::{Expr, find_command_expression, find_initial_state_expression};
+use pst_reasons::{AnyOrder, Order};
 use pst_scene::{
     Binding, Call, FaultyPart, Scene, arguments_with_recorded_results, bindings_of_environment,
     call_numbered, calls_before_call_in_interleaving, faulty_part_of_expression, operation_of_call,
@@ -207,9 +208,10 @@ fn operation_expression_with_faulty_part<'a>(
 }
 
 /// Returns the walk along the commands `before` of `interleaving`, as far as `states` has
-/// states, with the commands that cannot come next after them.
-fn interleaving_states_with_blocked_calls<'a>(
+/// states, with the commands that may come next by the order and cannot on the state after them.
+fn interleaving_states_with_blocked_calls<'a, O: Order>(
     alloc: Global,
+    order: &O,
     scene: &Scene<'a>,
     interleaving: &[usize],
     before: &[Call<'a>],
@@ -217,15 +219,16 @@ fn interleaving_states_with_blocked_calls<'a>(
 ) -> Result<InterleavingStates<'a>, AllocError> {
     let mut walk = interleaving_states_along_calls(alloc, scene, interleaving, before, states)?;
     if let Some(state) = states.get(before.len()) {
-        walk.stopped = blocked_calls_after(alloc, scene, before, state)?;
+        walk.stopped = blocked_calls_after(alloc, order, scene, before, state)?;
     }
     Ok(walk)
 }
 
 /// Returns the failure of a callback of a command in `interleaving`. `fault` is its fault, or `None` if it is
 /// a precondition that is false.
-pub fn failure_of_call_in_interleaving<'a>(
+pub fn failure_of_call_in_interleaving<'a, O: Order>(
     alloc: Global,
+    order: &O,
     scene: &Scene<'a>,
     interleaving: &[usize],
     callback: Callback,
@@ -240,7 +243,14 @@ pub fn failure_of_call_in_interleaving<'a>(
         Some(state) => operation_expression_with_faulty_part(alloc, scene, callback, &call, state)?,
         None => None,
     };
-    let walk = interleaving_states_with_blocked_calls(alloc, scene, interleaving, before, states)?;
+    let walk = interleaving_states_with_blocked_calls(
+        alloc,
+        order,
+        scene,
+        interleaving,
+        before,
+        states,
+    )?;
     Ok(Failure {
         callback,
         call: Some(call),
@@ -251,8 +261,9 @@ pub fn failure_of_call_in_interleaving<'a>(
 }
 
 /// Returns the failure at `place` in `interleaving`.
-pub fn failure_at_fault_place<'a>(
+pub fn failure_at_fault_place<'a, O: Order>(
     alloc: Global,
+    order: &O,
     scene: &Scene<'a>,
     interleaving: &[usize],
     place: FaultPlace,
@@ -261,6 +272,7 @@ pub fn failure_at_fault_place<'a>(
     if let Some(call) = call_numbered(scene.all.as_slice(), place.command) {
         return failure_of_call_in_interleaving(
             alloc,
+            order,
             scene,
             interleaving,
             place.callback,
@@ -303,7 +315,7 @@ pub fn failure_in_unknown_interleaving<'a>(
     place: FaultPlace,
 ) -> Result<Failure<'a>, AllocError> {
     let Some(call) = call_numbered(scene.all.as_slice(), place.command) else {
-        return failure_at_fault_place(alloc, scene, &[], place);
+        return failure_at_fault_place(alloc, &AnyOrder, scene, &[], place);
     };
     Ok(Failure {
         callback: place.callback,

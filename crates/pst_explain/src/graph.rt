@@ -48,8 +48,8 @@ fn is_explained(judged: &Judged) -> bool {
 /// in red, to a dead end with the reason. The edges of the interleaving of the verdict are bold. For an explained run,
 /// draws only these and the dead ends beside them, unless `all` is true. The search expands the first 300 positions,
 /// and all along the bold edges; positions that it leaves are dashed, and the title says so. If the search for the
-/// interleaving takes more than 2,000,000 steps of callbacks, no edge is bold, and the title says so. The graph is that of
-/// all interleavings also if only those in the order in time count; the bold edges are in order.
+/// interleaving takes more than 2,000,000 steps of callbacks, no edge is bold, and the title says so. A command that
+/// cannot come next by `order` is not drawn.
 pub fn graphviz_text_of_item_search<C: Callbacks>(
     callbacks: &C,
     order: CallOrder,
@@ -73,9 +73,9 @@ pub fn graphviz_text_of_item_search<C: Callbacks>(
     let shown = shown.unwrap_or(Vec::new(alloc));
     let shows_only_path = is_explained(judged) && !all;
     let search = if shows_only_path {
-        build_interleaving_graph_with_dead_ends(alloc, &scene, shown.as_slice())?
+        build_interleaving_graph_with_dead_ends(alloc, &scene, order, shown.as_slice())?
     } else {
-        build_search_graph_up_to_limit(alloc, &scene, shown.as_slice())?
+        build_search_graph_up_to_limit(alloc, &scene, order, shown.as_slice())?
     };
     let verdict = judged.text(alloc)?;
     let verdict = verdict.as_str();

@@ -1,5 +1,7 @@
 //! Positions of a search, and the commands that may come next there.
 
+use pst_judge::{CallOrder, RecordedOrder};
+use pst_reasons::Order;
 use pst_scene::{Call, CasePart, Scene};
 use pst_value::Value;
 use std::alloc::{AllocError, Global};
@@ -19,6 +21,29 @@ fn index_of_case_part(scene: &Scene<'_>, part: CasePart) -> usize {
         CasePart::Prefix => 0,
         CasePart::Branch(branch) => branch.saturating_add(1),
         CasePart::Suffix => scene.calls.branches.len().saturating_add(1),
+    }
+}
+
+/// The order in which the calls of an item count; `None` if the item was not run.
+pub fn recorded_order_of_item<'s>(
+    alloc: Global,
+    order: CallOrder,
+    scene: &'s Scene<'_>,
+) -> Result<Option<RecordedOrder<'s>>, AllocError> {
+    match &scene.run.history {
+        Some(history) => {
+            let recorded = RecordedOrder::new(alloc, order, &scene.run.shaped, history)?;
+            Ok(Some(recorded))
+        }
+        None => Ok(None),
+    }
+}
+
+/// Whether the order lets a branch come next, when `done[b]` commands of each branch `b` are done.
+fn is_branch_open(order: &Option<RecordedOrder<'_>>, done: &[usize], branch: usize) -> bool {
+    match order {
+        Some(order) => order.is_open(done, branch),
+        None => true,
     }
 }
 
@@ -99,30 +124,39 @@ impl GraphPosition {
         calls.get(*count).copied()
     }
 
-    /// The next command of each branch.
-    fn next_calls_of_branches<'a>(
+    /// How many commands of each branch are before the position.
+    fn call_counts_by_branch(&self, scene: &Scene<'_>) -> &[usize] {
+        let end = scene.calls.branches.len().saturating_add(1);
+        self.counts.as_slice().get(1..end).unwrap_or(&[])
+    }
+
+    /// The next command of each branch that the order lets come next.
+    fn next_calls_of_open_branches<'a>(
         &self,
         alloc: Global,
         scene: &Scene<'a>,
+        order: &Option<RecordedOrder<'_>>,
     ) -> Result<Vec<Call<'a>>, AllocError> {
+        let done = self.call_counts_by_branch(scene);
         let mut next = Vec::new(alloc);
         for (number, branch) in scene.calls.branches.iter().enumerate() {
-            if let Some(call) = self.next_call_of_part(
-                scene,
-                CasePart::Branch(number),
-                branch.as_slice(),
-            ) {
-                next.push(call)?;
+            let part = CasePart::Branch(number);
+            if let Some(call) = self.next_call_of_part(scene, part, branch.as_slice()) {
+                if is_branch_open(order, done, number) {
+                    next.push(call)?;
+                }
             }
         }
         Ok(next)
     }
 
-    /// The commands that may come next: that of the prefix, or one of each branch, or that of the suffix.
+    /// The commands that may come next: that of the prefix, or one of each branch that the order lets come next, or that
+    /// of the suffix.
     pub fn next_calls<'a>(
         &self,
         alloc: Global,
         scene: &Scene<'a>,
+        order: &Option<RecordedOrder<'_>>,
     ) -> Result<Vec<Call<'a>>, AllocError> {
         let mut one = Vec::new(alloc);
         if let Some(call) = self.next_call_of_part(
@@ -133,7 +167,7 @@ impl GraphPosition {
             one.push(call)?;
             return Ok(one);
         }
-        let next = self.next_calls_of_branches(alloc, scene)?;
+        let next = self.next_calls_of_open_branches(alloc, scene, order)?;
         if !next.is_empty() {
             return Ok(next);
         }

@@ -1,6 +1,8 @@
-//! The search of an item: positions, and the commands that it tries there.
+//! The search of an item: positions, and the commands that it tries there. Only the interleavings that count by the order
+//! of the recorded times are searched.
 
-use crate::position::GraphPosition;
+use crate::position::{GraphPosition, recorded_order_of_item};
+use pst_judge::{CallOrder, RecordedOrder};
 use pst_scene::{Call, DeadEnd, Outcome, Scene, evaluate_initial_state, outcome_of_call_on_state};
 use std::alloc::{AllocError, Global};
 
@@ -111,10 +113,11 @@ impl<'a> SearchGraph<'a> {
         &mut self,
         alloc: Global,
         scene: &Scene<'a>,
+        order: &Option<RecordedOrder<'_>>,
         from: usize,
         position: &GraphPosition,
     ) -> Result<(), AllocError> {
-        let next = position.next_calls(alloc, scene)?;
+        let next = position.next_calls(alloc, scene, order)?;
         for call in &next {
             self.add_move_and_target_of_call(alloc, scene, from, position, *call)?;
         }
@@ -126,13 +129,14 @@ impl<'a> SearchGraph<'a> {
         &mut self,
         alloc: Global,
         scene: &Scene<'a>,
+        order: &Option<RecordedOrder<'_>>,
         from: usize,
     ) -> Result<(), AllocError> {
         let Some(position) = self.positions.get(from) else {
             return Ok(());
         };
         let position = position.copy(alloc)?;
-        self.add_next_moves_and_targets(alloc, scene, from, &position)
+        self.add_next_moves_and_targets(alloc, scene, order, from, &position)
     }
 
     /// Expands the positions along the commands, and notes their moves.
@@ -140,10 +144,11 @@ impl<'a> SearchGraph<'a> {
         &mut self,
         alloc: Global,
         scene: &Scene<'a>,
+        order: &Option<RecordedOrder<'_>>,
         calls: &[Call<'_>],
     ) -> Result<(), AllocError> {
         let mut at = 0usize;
-        self.expand_position(alloc, scene, at)?;
+        self.expand_position(alloc, scene, order, at)?;
         for call in calls {
             let Some((number, next)) = find_command_move_and_target_position(
                 self.moves.as_slice(),
@@ -154,7 +159,7 @@ impl<'a> SearchGraph<'a> {
             };
             self.shown.push(number)?;
             at = next;
-            self.expand_position(alloc, scene, at)?;
+            self.expand_position(alloc, scene, order, at)?;
         }
         Ok(())
     }
@@ -169,6 +174,7 @@ impl<'a> SearchGraph<'a> {
         &mut self,
         alloc: Global,
         scene: &Scene<'a>,
+        order: &Option<RecordedOrder<'_>>,
         most: usize,
     ) -> Result<bool, AllocError> {
         for number in 0..most {
@@ -176,7 +182,7 @@ impl<'a> SearchGraph<'a> {
                 return Ok(false);
             }
             if !self.has_moves_from_position(number) {
-                self.expand_position(alloc, scene, number)?;
+                self.expand_position(alloc, scene, order, number)?;
             }
         }
         Ok(self.positions.len() <= most)
@@ -187,10 +193,11 @@ impl<'a> SearchGraph<'a> {
         &mut self,
         alloc: Global,
         scene: &Scene<'a>,
+        order: &Option<RecordedOrder<'_>>,
     ) -> Result<(), AllocError> {
         for number in 0..MOST_POSITIONS {
             if !self.has_moves_from_position(number) {
-                self.expand_position(alloc, scene, number)?;
+                self.expand_position(alloc, scene, order, number)?;
             }
         }
         Ok(())
@@ -201,6 +208,7 @@ impl<'a> SearchGraph<'a> {
 fn build_search_graph_along_calls<'a>(
     alloc: Global,
     scene: &Scene<'a>,
+    order: &Option<RecordedOrder<'_>>,
     shown: &[Call<'_>],
 ) -> Result<SearchGraph<'a>, AllocError> {
     let mut search = SearchGraph::empty(alloc);
@@ -209,7 +217,7 @@ fn build_search_graph_along_calls<'a>(
     };
     let first = GraphPosition::initial(alloc, scene, state)?;
     search.positions.push(first)?;
-    search.expand_along_calls_noting_shown_moves(alloc, scene, shown)?;
+    search.expand_along_calls_noting_shown_moves(alloc, scene, order, shown)?;
     Ok(search)
 }
 
@@ -317,9 +325,11 @@ impl<'a> SearchGraph<'a> {
 pub fn build_interleaving_graph_with_dead_ends<'a>(
     alloc: Global,
     scene: &Scene<'a>,
+    order: CallOrder,
     shown: &[Call<'_>],
 ) -> Result<SearchGraph<'a>, AllocError> {
-    let search = build_search_graph_along_calls(alloc, scene, shown)?;
+    let recorded = recorded_order_of_item(alloc, order, scene)?;
+    let search = build_search_graph_along_calls(alloc, scene, &recorded, shown)?;
     let kept = position_numbers_along_shown_interleaving(alloc, &search)?;
     let mut path = SearchGraph::empty(alloc);
     let SearchGraph {
@@ -337,10 +347,12 @@ pub fn build_interleaving_graph_with_dead_ends<'a>(
 pub fn build_search_graph_up_to_limit<'a>(
     alloc: Global,
     scene: &Scene<'a>,
+    order: CallOrder,
     shown: &[Call<'_>],
 ) -> Result<SearchGraph<'a>, AllocError> {
-    let mut search = build_search_graph_along_calls(alloc, scene, shown)?;
-    search.expand_remaining_positions_up_to_limit(alloc, scene)?;
+    let recorded = recorded_order_of_item(alloc, order, scene)?;
+    let mut search = build_search_graph_along_calls(alloc, scene, &recorded, shown)?;
+    search.expand_remaining_positions_up_to_limit(alloc, scene, &recorded)?;
     Ok(search)
 }
 
@@ -349,11 +361,13 @@ pub fn build_search_graph_up_to_limit<'a>(
 pub fn build_search_graph_if_small<'a>(
     alloc: Global,
     scene: &Scene<'a>,
+    order: CallOrder,
     shown: &[Call<'_>],
     most: usize,
 ) -> Result<Option<SearchGraph<'a>>, AllocError> {
-    let mut search = build_search_graph_along_calls(alloc, scene, shown)?;
-    if search.try_expanding_all_within_limit(alloc, scene, most)? {
+    let recorded = recorded_order_of_item(alloc, order, scene)?;
+    let mut search = build_search_graph_along_calls(alloc, scene, &recorded, shown)?;
+    if search.try_expanding_all_within_limit(alloc, scene, &recorded, most)? {
         Ok(Some(search))
     } else {
         Ok(None)

@@ -5,7 +5,7 @@ use crate::core_text::add_optional_core_and_run_text;
 use crate::explanation::{Explanation, JudgementReason};
 use crate::failure_text::add_failure_explanation_text;
 use crate::obstacles::add_obstacles_text;
-use crate::parts::add_marked_run_text;
+use crate::parts::{MarkedRun, add_marked_run_text};
 use crate::walk_text::{
     add_blocked_calls_text, add_explaining_interleaving_with_precondition_notes,
     add_interleaving_states_text,
@@ -132,6 +132,7 @@ fn add_broken_reply_and_run_text(
     page: &mut Page,
     alloc: Global,
     scene: &Scene<'_>,
+    is_timed: bool,
     broken: &CallWithBrokenReply<'_>,
 ) -> Result<(), AllocError> {
     if let Some(mut sentence) = broken_reply_sentence(alloc, scene.model, broken)? {
@@ -139,7 +140,13 @@ fn add_broken_reply_and_run_text(
         page.add_wrapped_sentence(alloc, 2, sentence.as_slice())?;
     }
     page.add_wrapped_sentence(alloc, 2, b"The run, with * before this command:")?;
-    add_marked_run_text(page, alloc, scene, &[broken.number])
+    let marked = &[broken.number];
+    let run = MarkedRun {
+        scene,
+        is_timed,
+        marked,
+    };
+    add_marked_run_text(page, alloc, &run)
 }
 
 /// Adds what the order in time rules out, if that is known.
@@ -161,6 +168,7 @@ fn add_judgement_reason_text(
     explanation: &Explanation<'_>,
 ) -> Result<(), AllocError> {
     let scene = &explanation.scene;
+    let is_timed = explanation.is_timed;
     match &explanation.reason {
         JudgementReason::Explained(walk) => add_explaining_interleaving_with_precondition_notes(
             page,
@@ -173,19 +181,18 @@ fn add_judgement_reason_text(
             core,
             furthest,
         } => {
-            add_optional_core_and_run_text(page, alloc, scene, core.as_ref())?;
+            add_optional_core_and_run_text(page, alloc, scene, is_timed, core.as_ref())?;
             add_any_obstacles_text(page, alloc, explanation)?;
-            let is_timed = explanation.is_timed;
             let furthest = furthest.as_ref();
             add_furthest_interleaving_text(page, alloc, scene.model, is_timed, *far, furthest)
         }
         JudgementReason::Faulted { failure, core } => {
             add_failure_explanation_text(page, alloc, scene, failure)?;
-            add_optional_core_and_run_text(page, alloc, scene, core.as_ref())?;
+            add_optional_core_and_run_text(page, alloc, scene, is_timed, core.as_ref())?;
             add_any_obstacles_text(page, alloc, explanation)
         }
         JudgementReason::Broken(broken) => add_broken_reply_and_run_text(
-            page, alloc, scene, broken,
+            page, alloc, scene, is_timed, broken,
         ),
         JudgementReason::Invalid(failure) => add_failure_explanation_text(
             page, alloc, scene, failure,

@@ -148,15 +148,17 @@ fn add_call_if_blocked<'a>(
     Ok(())
 }
 
-/// Returns each command that comes next in its part after `calls` but cannot on `state`, the state after them.
-pub fn blocked_calls_after<'a>(
+/// Returns each command that may come next by the order after `calls` but cannot on `state`, the state after them.
+pub fn blocked_calls_after<'a, O: Order>(
     alloc: Global,
+    order: &O,
     scene: &Scene<'a>,
     calls: &[Call<'_>],
     state: &Value,
 ) -> Result<Vec<BlockedCall<'a>>, AllocError> {
     let interleaving = interleaving_of_calls(alloc, calls)?;
-    let next = calls_that_may_come_next(alloc, &scene.calls, interleaving.as_slice(), calls.len())?;
+    let interleaving = interleaving.as_slice();
+    let next = calls_that_may_come_next_in_order(alloc, order, scene, interleaving, calls.len())?;
     let mut stopped = Vec::new(alloc);
     for call in &next {
         add_call_if_blocked(&mut stopped, alloc, scene, call, state)?;

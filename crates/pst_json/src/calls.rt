@@ -6,8 +6,9 @@ use crate::values::{
 use crate::writing::{write_json_byte_string, write_json_number_member};
 use json::Writer;
 use pst_case::{CallTime, Reply};
+use pst_explain::time_of_call;
 use pst_model::Source;
-use pst_scene::{Call, CasePart, Scene, operation_of_call};
+use pst_scene::{Call, Scene, operation_of_call};
 use std::alloc::{AllocError, Global};
 
 /// Writes the place of a call, as `L2`.
@@ -71,16 +72,6 @@ fn write_json_call_identity_members(
     writer.key("part")?;
     write_json_byte_string(writer, alloc, &[call.part.letter()])?;
     write_json_number_member(writer, "index", call.place)
-}
-
-/// The recorded times of a call, if there are some: those of a call of a branch.
-fn time_of_call(scene: &Scene<'_>, call: &Call<'_>) -> Option<CallTime> {
-    let CasePart::Branch(branch) = call.part else {
-        return None;
-    };
-    let times = scene.run.history.as_ref()?.times.as_ref()?;
-    let times = times.as_slice().get(branch)?;
-    times.as_slice().get(call.place.saturating_sub(1)).copied()
 }
 
 /// Writes the member `time`: when the call was invoked and when it completed, which is `null` if nobody knows.

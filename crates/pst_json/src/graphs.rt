@@ -72,7 +72,8 @@ fn small_search_graph_to_write_if_any<'a>(
     }
     let shown = calls_of_explanation_interleaving(alloc, explanation)?;
     let scene = &explanation.scene;
-    match build_search_graph_if_small(alloc, scene, shown.as_slice(), MOST_POSITIONS)? {
+    let order = explanation.call_order();
+    match build_search_graph_if_small(alloc, scene, order, shown.as_slice(), MOST_POSITIONS)? {
         Some(search) if !search.positions.is_empty() => Ok(Some(search)),
         _ => Ok(None),
     }
@@ -164,17 +165,19 @@ fn write_json_graph_member(
     writer.end_object()
 }
 
-/// Writes the member `search`: how many interleavings there are, and how many positions and moves
-/// `search` has.
+/// Writes the member `search`: how many interleavings there are, unless only those in order of time count, and how many
+/// positions and moves `search` has.
 fn write_json_search_counts_member(
     writer: &mut Writer<Global>,
-    scene: &Scene<'_>,
+    explanation: &Explanation<'_>,
     search: Option<&SearchGraph<'_>>,
 ) -> Result<(), AllocError> {
     writer.key("search")?;
     writer.begin_object()?;
-    writer.key("orders")?;
-    writer.u64(count_interleavings(scene))?;
+    if !explanation.is_timed {
+        writer.key("orders")?;
+        writer.u64(count_interleavings(&explanation.scene))?;
+    }
     if let Some(search) = search {
         write_json_number_member(writer, "positions", search.positions.len())?;
         write_json_number_member(writer, "moves", search.moves.len())?;
@@ -189,7 +192,7 @@ pub fn write_json_search_counts_and_any_graph(
     explanation: &Explanation<'_>,
 ) -> Result<(), AllocError> {
     let search = small_search_graph_to_write_if_any(alloc, explanation)?;
-    write_json_search_counts_member(writer, &explanation.scene, search.as_ref())?;
+    write_json_search_counts_member(writer, explanation, search.as_ref())?;
     match &search {
         Some(search) => write_json_graph_member(writer, alloc, explanation.scene.model, search),
         None => Ok(()),
