@@ -7,7 +7,7 @@ pub const BEFORE_DATA: &str = r##"<!DOCTYPE html>
 <head>
 <meta charset="utf-8">
 <meta name="viewport" content="width=device-width, initial-scale=1">
-<meta http-equiv="Content-Security-Policy" content="default-src 'none'; style-src 'sha256-4f+nAXZBPvVxroygM49VfBKdyXZQgQm7+1Qa3PsocgM='; script-src 'sha256-2hOgH6zVnpnyYKW0SdQxBukkIq3nqTnUT/S0o+SHOY0='; base-uri 'none'; form-action 'none'">
+<meta http-equiv="Content-Security-Policy" content="default-src 'none'; style-src 'sha256-4f+nAXZBPvVxroygM49VfBKdyXZQgQm7+1Qa3PsocgM='; script-src 'sha256-8dMHAG2flEZO8KlpsGqUCwUsph60yOFwGeVS5w55zfg='; base-uri 'none'; form-action 'none'">
 <title>pst explain</title>
 <style>
 /* A color for each branch, and pairs of colors for wrong, right and doubtful. Each is doubled by a letter or a sign. */
@@ -679,7 +679,7 @@ function graphPanel() {
   svg.style.setProperty('min-width', Math.min(width, Math.max(width * .72, 300)) + 'px');
   return h('section', {class: 'panel', 'data-wide': width > 500, 'aria-label': 'All orders'},
     h('h2', null, 'All orders at a glance', h('small', null, orderCount() ? count(orderCount(), 'order') + ' through ' : '', count(nodes.length, 'position') + '. Each box is a state, each line a call. ',
-      places.refused.some(Boolean) && [h('b', {class: 'bad'}, '✗'), ' marks a call that cannot come next.'], 
+      places.refused.some(Boolean) && [h('b', {class: 'bad'}, '✗'), ' marks a call that cannot come next.'],
       item.graph.edges.some(isLate) && ' A dashed line goes against the order in time. ',
       item.verdict === 'unexplained' && (item.graph.edges.some(isLate) ? ' Without dashed lines no way leads to the end.' : ' No way leads to the end.'))),
     h('div', {class: 'graph'}, svg));
