@@ -2,8 +2,8 @@
 """Compares the forms of `pst explain`: explanations.py PROGRAM [FILE..]
 
 For each input the JSON has to be as docs/json.md says, and the text has to be the one that is written here from the JSON alone. The page has to
-have the JSON in it. The inputs are the files that are named, or else the examples, those of crates/pst_rows/data/explained, and some that
-are made of them by changing answers and arguments.
+have the JSON in it. The inputs are the files that are named, or else the examples, those of crates/pst_rows/data/explained, those with times of
+the docs, the rows and the page's tests, runs with times at random, and some that are made of these by changing answers and arguments.
 """
 import glob, json, os, random, re, subprocess, sys
 
@@ -18,7 +18,9 @@ ALLOWED = {"values": [VALUE], "all": bool, "only": bool}
 ITEM = {
     "item": int, "kind": ("run", "case"), "verdict": ("explained", "unexplained", "fault", "broken", "valid", "prefalse", "casefault"),
     "line": str, "at": {"file": str, "line": int},
-    "calls": [{"id": str, "number": int, "part": tuple("PLRSTX"), "index": int, "op": str, "args": [VALUE], "reply?": VALUE}],
+    "calls": [{"id": str, "number": int, "part": tuple("PLRSTX"), "index": int, "op": str, "args": [VALUE], "reply?": VALUE,
+               "time?": "time"}],
+    "in_time?": {"without": str, "against": [{"earlier": "call", "later": "call"}]},
     "core?": [{"call": "call", "why?": {**WHY, "by?": str, "state": str}, "allowed?": ALLOWED}], "prefix?": bool,
     "walk?": {"kind": ("explains", "furthest", "faults", "breaks"), "word": str, "start?": str,
               "steps": [{"call": "call", "state": str, "pre?": str}], "next": [{"call": "call", "why": WHY}]},
@@ -57,6 +59,9 @@ def check(value, schema, path, item=None):
         assert value in schema, f"{path} is {value!r}"
     elif schema == "node":
         assert 0 <= value < len(item["graph"]["nodes"]), f"{path} is no node"
+    elif schema == "time":
+        began, answered = value
+        assert type(began) is int and (answered is None or type(answered) is int and began <= answered), f"{path} is {value!r}"
     elif schema in ("call", "call or null"):
         assert value in {call["id"] for call in item["calls"]} or (value is None and schema != "call"), f"{path} is no call"
     else:
@@ -104,8 +109,9 @@ def check_values(value):
 class Text:
     """The text of an item, written from its JSON."""
 
-    def __init__(self, document, item):
+    def __init__(self, document, item, is_timed):
         self.item, self.lines = item, []
+        self.interleaving = "interleaving in order of time" if is_timed else "interleaving"
         self.calls = {call["id"]: call for call in item["calls"]}
         self.posts = {op["name"]: op["post"] for op in document["model"]["ops"]}
         place = f"line {item['at']['line']}"
@@ -156,6 +162,14 @@ class Text:
         self.add("The run, with * before what is reported above:" if core else "The run:")
         self.run({answer["call"] for answer in core})
 
+    def in_time(self):
+        found = self.item.get("in_time")
+        if found:
+            self.add(f"Without the order in time {found['without']} would explain it. Against it:")
+            for each in found["against"]:
+                earlier, later = (self.call(self.calls[each[side]]) for side in ("earlier", "later"))
+                self.add(f"{later} began after {earlier} had been answered")
+
     def expression(self, found):
         self.add(found["expr"])
         for name, value in found["names"]:
@@ -191,11 +205,12 @@ class Text:
 
     def of_unexplained(self):
         self.core()
+        self.in_time()
         walk, far = self.item["walk"], int(self.item["line"].split()[-1])
         events = "1 event holds" if far == 1 else f"{far} events hold"
-        self.add("In every interleaving the first event does not hold:" if far == 0 else
-                 f"In every interleaving {events} before one does not:" if walk["word"] == "-" else
-                 f"No interleaving gets further than {walk['word']}, where {events}:")
+        self.add(f"In every {self.interleaving} the first event does not hold:" if far == 0 else
+                 f"In every {self.interleaving} {events} before one does not:" if walk["word"] == "-" else
+                 f"No {self.interleaving} gets further than {walk['word']}, where {events}:")
         assert len(walk["steps"]) == far
         self.states()
         self.add(f"There the postcondition of {'the' if len(walk['next']) == 1 else 'each'} next command is false:")
@@ -205,6 +220,7 @@ class Text:
     def of_fault(self):
         self.failure()
         self.core()
+        self.in_time()
 
     of_prefalse = of_casefault = failure
 
@@ -220,9 +236,51 @@ class Text:
         self.run({call["id"]})
 
 
-def check_graph(item):
-    """Checks that the graph of an item has its walk, and that nothing can be tried that it has not."""
+def precedes(earlier, later):
+    """Whether a call was answered before another began."""
+    return "time" in earlier and "time" in later and earlier["time"][1] is not None and earlier["time"][1] < later["time"][0]
+
+
+def check_times(item, is_timed):
+    """Checks that each branch has times that rise or none, that those of a timed item's interleaving are in order, and what is against another one."""
+    calls = {call["id"]: call for call in item["calls"]}
+    for letter in "LRST":
+        times = [call["time"] for call in calls.values() if call["part"] == letter and "time" in call]
+        assert all(call[1] is not None and call[1] <= following[0] for call, following in zip(times, times[1:])), f"branch {letter} has {times}"
+    assert not any("time" in call for call in calls.values() if call["part"] in "PX")
+    if is_timed and "walk" in item:
+        order = [calls[step["call"]] for step in item["walk"]["steps"]]
+        left = [call for call in calls.values() if call not in order]
+        assert not any(precedes(other, call) for at, call in enumerate(order) for other in [*order[at + 1:], *left]), "the interleaving is not in order of time"
+    if "in_time" in item:
+        assert is_timed and item["verdict"] in ("unexplained", "fault")
+        word, against = item["in_time"]["without"], item["in_time"]["against"]
+        order = [f"{letter}{word[:at + 1].count(letter)}" for at, letter in enumerate(word)]
+        assert sorted(order) == sorted(call["id"] for call in calls.values() if call["part"] in "LRST"), f"{word} is no interleaving"
+        assert all(precedes(calls[each["earlier"]], calls[each["later"]]) for each in against), f"{against} are not in order of time"
+        assert any(order.index(each["later"]) < order.index(each["earlier"]) for each in against), f"nothing is against {word}"
+
+
+def overtakes(item, edge, pairs):
+    """Whether the call of an edge is the later one of a pair whose earlier one is not before the edge's node."""
+    at, calls = item["graph"]["nodes"][edge["from"]]["at"], {call["id"]: call for call in item["calls"]}
+    earlier = [calls[one] for one, later in pairs if later == edge["call"]]
+    return any(call["index"] > at["LRST".index(call["part"]) + 1] for call in earlier)
+
+
+def reaches_end(item, pairs):
+    """Whether a way through the graph leads to the end and has no later call of a pair before the earlier one."""
+    nodes, reached = item["graph"]["nodes"], {0}
+    for edge in sorted(item["graph"]["edges"], key=lambda edge: sum(nodes[edge["from"]]["at"])):
+        if edge["from"] in reached and "to" in edge and not overtakes(item, edge, pairs):
+            reached.add(edge["to"])
+    return any(sum(nodes[at]["at"]) == len(item["calls"]) for at in reached)
+
+
+def check_graph(item, is_timed):
+    """Checks that the graph of an item has its walk, that nothing can be tried that it has not, and what it has of the order in time."""
     graph, walk = item["graph"], item["walk"]
+    order = [(one["id"], other["id"]) for one in item["calls"] for other in item["calls"] if is_timed and precedes(one, other)]
     assert len(graph["nodes"]) == item["search"]["positions"] and len(graph["edges"]) == item["search"]["moves"]
     assert all(("to" in edge) != ("why" in edge) for edge in graph["edges"])
     at, way = 0, []
@@ -231,11 +289,15 @@ def check_graph(item):
         at = edge["to"]
         way.append([edge["call"], graph["nodes"][at]["state"]])
     assert way == [[step["call"], step["state"]] for step in walk["steps"]] and graph["nodes"][0]["state"] == walk["start"]
-    stopped = [edge for edge in graph["edges"] if edge["from"] == at and "why" in edge]
+    stopped = [edge for edge in graph["edges"] if edge["from"] == at and "why" in edge and not overtakes(item, edge, order)]
     assert sorted(edge["call"] for edge in stopped) == sorted(each["call"] for each in walk["next"])
     if item["kind"] == "run" and item["verdict"] == "unexplained":
-        reached = {edge["from"] for edge in graph["edges"]}
-        assert set(range(len(graph["nodes"]))) == reached, "a position without a move"
+        tried, ends = {edge["from"] for edge in graph["edges"]}, {at for at, node in enumerate(graph["nodes"]) if sum(node["at"]) == len(item["calls"])}
+        assert set(range(len(graph["nodes"]))) == tried | ends, "a position without a move"
+        against = [(each["earlier"], each["later"]) for each in item.get("in_time", {"against": []})["against"]]
+        assert reaches_end(item, []) == ("in_time" in item), "in_time and the graph do not agree on what explains the item without its times"
+        assert not reaches_end(item, order) and not reaches_end(item, against), "a way in the order in time leads to the end"
+        assert all(reaches_end(item, [other for other in against if other != each]) for each in against), f"{against} has more than is needed"
 
 
 def run(program, words, text):
@@ -271,9 +333,11 @@ def compare(program, words, text=None):
     long = 0
     for item, got in zip(document["items"], shown):
         assert NEEDED[item["verdict"]] <= set(item), f"item {item['item']} lacks a part"
+        is_timed = "none" not in words and any("time" in call for call in item["calls"])
+        check_times(item, is_timed)
         if "graph" in item:
-            check_graph(item)
-        wanted = words_of("\n".join(Text(document, item).lines))[0]
+            check_graph(item, is_timed)
+        wanted = words_of("\n".join(Text(document, item, is_timed).lines))[0]
         if max(map(len, wanted)) > WIDTH - 10:
             long += 1
         else:
@@ -291,7 +355,52 @@ def changed(text, chance):
             return chance.choice(["true", "false", "true", "false", "failed"])
         return str(chance.choice([int(word) + 1, int(word) - 1, 0, 1, 2]))
     begin = min((at for at in (text.find("\n(run"), text.find("\n(case")) if at >= 0), default=len(text))
-    return text[:begin] + re.sub(r'(?<![$\w"-])(-?\d+|true|false)(?![\w"])', other, text[begin:])
+    parts = re.split(r"(\(times(?:\s*\((?:\s*\([^()]*\))*\))*\))", text[begin:])
+    return text[:begin] + "".join(part if part.startswith("(times") else re.sub(r'(?<![$\w"-])(-?\d+|true|false)(?![\w"])', other, part) for part in parts)
+
+
+# A counter whose increments do not answer what it counts, so several of them can stand against one reading.
+BLIND = """(model blind (state int) (init 0) (command (list call (call get)))
+  (op inc () bool (pre true) (next (+ s 1)) (post r)) (op get () int (pre true) (next s) (post (= r s))))
+"""
+
+
+def timed_branch(chance):
+    """Returns the calls of a branch and their times."""
+    calls, times, clock = [chance.choice(["(inc)", "(get)"]) for _ in range(chance.randint(0, 3))], [], chance.randint(0, 4)
+    for _ in calls:
+        began = clock + chance.randint(0, 2)
+        clock = began + chance.randint(0, 3)
+        times.append(f"({began} {clock})")
+    if times and chance.random() < 0.15:
+        times[-1] = f"({began} -)"
+    return calls, times
+
+
+def timed_run(chance):
+    """Returns a run of the blind counter with times. Some interleaving explains its answers, unless one was changed."""
+    branches = [timed_branch(chance) for _ in range(chance.randint(2, 4))]
+    order, state, replies = [at for at, (calls, _) in enumerate(branches) for _ in calls], 0, [[] for _ in branches]
+    chance.shuffle(order)
+    for at in order:
+        is_increment = branches[at][0][len(replies[at])] == "(inc)"
+        state += is_increment
+        replies[at].append("true" if is_increment else state + (chance.random() < 0.1))
+    lists = lambda each: " ".join(f"({' '.join(map(str, one))})" for one in each)
+    calls, times = zip(*branches)
+    return f"(run (prefix) (branches {lists(calls)}) (replies () {lists(replies)}) (times {lists(times)}))"
+
+
+def timed_inputs(chance):
+    """Returns inputs with times: those of the docs and of the rows, and runs at random."""
+    with open(os.path.join(TOP, "docs/explain.md"), encoding="utf-8") as file:
+        runs = re.findall(r"^```lisp stale.runs\n(.*?)^```", file.read(), re.M | re.S)
+    with open(os.path.join(TOP, "crates/pst_rows/data/judge/times.rows"), encoding="utf-8") as file:
+        runs += [match[1] for match in re.finditer(r"^(\(run .*\(times .*\)) => (?!\d+ \d+ )", file.read(), re.M)]
+    assert len(runs) > 20
+    inputs = [(["examples/counter.model", "-"], text) for text in runs]
+    inputs += [(["-"], BLIND + "\n".join(timed_run(chance) for _ in range(10))) for _ in range(100)]
+    return [([*more, *words], text.encode()) for words, text in inputs for more in ([], ["--order", "none"])]
 
 
 def main(program, *files):
@@ -302,7 +411,10 @@ def main(program, *files):
         names = sorted(glob.glob(f"{folder}/*.runs", root_dir=TOP) + glob.glob("examples/*.runs", root_dir=TOP))
         inputs = [([*more, name], None) for name in names for more in ([], ["--failures"], ["--item", "2"], ["--max", "1"])]
         inputs.append(([f"{folder}/{name}" for name in ("parts.model", "monday.runs", "tuesday.runs")], None))
+        names.append("tests/page/times.runs")
+        inputs += [([*more, "tests/page/times.runs"], None) for more in ([], ["--failures"], ["--order", "none"])]
         chance = random.Random(7)
+        inputs += timed_inputs(chance)
         for name in (chance.choice(names) for _ in range(200)):
             with open(os.path.join(TOP, name), encoding="utf-8") as file:
                 inputs.append((["-"], changed(re.sub(r"(?m)^;.*\n", "", file.read()), chance).encode()))

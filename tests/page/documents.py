@@ -12,8 +12,8 @@ EXPLAINED = "crates/pst_rows/data/explained/"
 RUNS = {
     "bank": EXPLAINED + "bank.runs", "cache": EXPLAINED + "cache.runs", "counter": EXPLAINED + "counter.runs", "deep": EXPLAINED + "deep.runs",
     "faults": EXPLAINED + "faults.runs", "four": "tests/page/four.runs", "hostile": "tests/page/hostile.runs", "init": EXPLAINED + "init.runs",
-    "lost": "examples/lost.runs", "queue": EXPLAINED + "queue.runs", "reads": "examples/reads.runs", "registry": "examples/registry.runs",
-    "silent": "examples/silent.runs", "store": "examples/store.runs", "wide": EXPLAINED + "wide.runs",
+    "any": "--order none tests/page/times.runs", "lost": "examples/lost.runs", "queue": EXPLAINED + "queue.runs", "reads": "examples/reads.runs", "registry": "examples/registry.runs",
+    "silent": "examples/silent.runs", "store": "examples/store.runs", "times": "tests/page/times.runs", "wide": EXPLAINED + "wide.runs",
 }
 
 
@@ -45,8 +45,8 @@ def without_policy(page):
 
 
 def of_program(program, runs):
-    """Returns the page that the program writes for a file of runs."""
-    ran = subprocess.run([program, "explain", "--format", "html", runs], cwd=TOP, capture_output=True, timeout=60)
+    """Returns the page that the program writes for a file of runs, after any options."""
+    ran = subprocess.run([program, "explain", "--format", "html", *runs.split()], cwd=TOP, capture_output=True, timeout=60)
     if ran.returncode not in (0, 1):
         raise RuntimeError("pst explain --format html %s ends with %d: %s" % (runs, ran.returncode, ran.stderr.decode()))
     return ran.stdout.decode()

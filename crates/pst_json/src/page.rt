@@ -7,7 +7,7 @@ pub const BEFORE_DATA: &str = r##"<!DOCTYPE html>
 <head>
 <meta charset="utf-8">
 <meta name="viewport" content="width=device-width, initial-scale=1">
-<meta http-equiv="Content-Security-Policy" content="default-src 'none'; style-src 'sha256-8xJBJ1u20C24EC8UghEJQwHQVKhzPLbm0z65qb+jgBY='; script-src 'sha256-a8UoCiZCniNTBKqqlpNE0aheIuafT5tPR++gI4x54YM='; base-uri 'none'; form-action 'none'">
+<meta http-equiv="Content-Security-Policy" content="default-src 'none'; style-src 'sha256-4f+nAXZBPvVxroygM49VfBKdyXZQgQm7+1Qa3PsocgM='; script-src 'sha256-8dMHAG2flEZO8KlpsGqUCwUsph60yOFwGeVS5w55zfg='; base-uri 'none'; form-action 'none'">
 <title>pst explain</title>
 <style>
 /* A color for each branch, and pairs of colors for wrong, right and doubtful. Each is doubled by a letter or a sign. */
@@ -85,13 +85,27 @@ h3 { font-size: .86rem; margin-bottom: .3rem; } h2 small, h3 small { font-weight
 .card .step { float: right; min-width: 1.25rem; padding: 0 .25rem; margin-left: .4rem; border-radius: 99px; font: 700 .72rem/1.25rem var(--sans); text-align: center; color: var(--panel); background: var(--part); }
 .card.stuck .step { background: var(--bad); }
 
+/* The axis of time: a lane for each branch, a column for each tick, a bar for each call. Bars that share a tick of one lane are in two rows. */
+.axis { overflow-x: auto; margin: .3rem -4px 0; padding: 4px; } .lane { display: flex; align-items: center; min-width: calc(var(--ticks) * 1.2rem + 1.4rem); margin-bottom: 3px; }
+.lane > b { flex: none; width: 1.4rem; font-size: .8rem; color: var(--part); }
+.bars { flex: 1; min-width: 0; min-height: 2.6rem; display: grid; grid-template-columns: repeat(var(--ticks), minmax(0, 1fr)); grid-auto-flow: row dense; gap: 3px 0; align-items: center;
+  background: repeating-linear-gradient(to right, var(--line) 0 1px, transparent 1px calc(100% / var(--ticks))); border-right: 1px solid var(--line); }
+.bar { min-width: 0; overflow: hidden; margin: 0 1px; padding: 0 .3rem; border: 1.5px solid var(--part); border-radius: 6px; background: var(--panel); font-size: .82rem; line-height: 1.35; }
+.bar .id { display: block; border: 0; padding: 0; } .bar .reply { display: block; font-weight: 600; white-space: nowrap; overflow: hidden; text-overflow: ellipsis; }
+.bar:hover { background: var(--sunk); } .bar.wrong { border-color: var(--bad); background: var(--bad-panel); } .bar.wrong .reply { color: var(--bad); }
+.bar.first { border-right-width: 6px; } .bar.second { border-left-width: 6px; } .bar.now { box-shadow: 0 0 0 1px var(--panel), 0 0 0 3px var(--part); }
+.bar.open { border-right: 0; border-radius: 6px 0 0 6px; margin-right: 0; mask-image: linear-gradient(to left, transparent, #000 min(2.2rem, 45%)); }
+.bar.later { border-style: dashed; } .bar.later.first { border-right-style: solid; } .bar.later.second { border-left-style: solid; } .bar.later, .bar.later .id { color: var(--soft); } .bar.later .reply { font-weight: 400; }
+.scale { display: flex; justify-content: space-between; min-width: calc(var(--ticks) * 1.2rem + 1.4rem); padding-left: 1.4rem; font-size: .78rem; }
+.axis + p { font-size: .82rem; margin-top: .3rem; }
+
 /* An order, step by step, with a track for each branch. */
 .steps { overflow-y: auto; max-height: min(31rem, 62vh); margin: 0 -.4rem; padding: 2px .4rem; }
 .row { display: grid; grid-template-columns: 1.5rem auto minmax(0, 1fr) minmax(0, .8fr); gap: 0 .6rem; align-items: center; width: 100%; min-height: 2.1rem; padding: .12rem .3rem; border-radius: 7px; font-size: .9rem; }
 .row:hover, .row.now { background: var(--sunk); } .row.now { box-shadow: inset 3px 0 var(--ink); }
 .row.after, .row.after .id { color: var(--soft); } .row.after .value { font-weight: 400; } .row.after mark { background: none; color: inherit; } .row.after i::after { opacity: .4; }
 .row > .text { display: -webkit-box; -webkit-box-orient: vertical; -webkit-line-clamp: 4; overflow: hidden; }
-.row .number { text-align: right; color: var(--soft); font-size: .8rem; } .row .number.bad { color: var(--bad); } .row .number.good { color: var(--good); }
+.row .number { text-align: right; color: var(--soft); font-size: .8rem; } .row .number.bad { color: var(--bad); } .row .number.good { color: var(--good); } .row .number.doubtful { color: var(--warn); }
 .row.head { min-height: 0; font-size: .78rem; background: none; }
 .track { display: flex; align-self: stretch; margin: -.12rem 0; } .track > * { width: 1.1rem; position: relative; text-align: center; color: var(--part); }
 .track i::before { content: ""; position: absolute; left: calc(50% - 1px); top: 0; bottom: 0; border-left: 2px solid var(--line); }
@@ -99,11 +113,12 @@ h3 { font-size: .86rem; margin-bottom: .3rem; } h2 small, h3 small { font-weight
 .track.all i::after { content: ""; position: absolute; left: 0; right: 0; top: calc(50% - 2px); height: 4px; background: var(--alone); }
 .next { margin-top: .6rem; border-top: 1px solid var(--line); padding-top: .6rem; }
 .next .row { grid-template-columns: 1.5rem minmax(0, 1fr) minmax(0, 1.1fr); } .next .row.no { background: var(--bad-panel); margin-bottom: 3px; }
+.doubtful { color: var(--warn); }
 
 /* The graph of all orders, the model, and the help. */
 .graph { overflow-x: auto; } .graph svg { display: block; margin: 0 auto; max-width: 100%; height: auto; font: 12px var(--mono); }
 .graph text { fill: var(--ink); text-anchor: middle; dominant-baseline: central; }
-.graph .move line { stroke: var(--part); stroke-width: 1.5; opacity: .55; } .graph .move.on line { stroke-width: 4; opacity: 1; }
+.graph .move line { stroke: var(--part); stroke-width: 1.5; opacity: .55; } .graph .move.on line { stroke-width: 4; opacity: 1; } .graph .late line, .graph .late rect { stroke-dasharray: 4 4; }
 .graph .move text { fill: var(--part); font-weight: 700; font-size: 11px; paint-order: stroke; stroke: var(--panel); stroke-width: 5px; }
 .graph .node { cursor: pointer; } .graph .node rect { fill: var(--panel); stroke: var(--soft); } .graph .node:hover rect { stroke-width: 2.5; }
 .graph .dead rect { fill: var(--bad-panel); stroke: var(--bad-line); } .graph .end rect { fill: var(--good-panel); stroke: var(--good); stroke-width: 2.5; }
@@ -122,7 +137,7 @@ kbd { font: .9em var(--mono); border: 1px solid var(--line); border-radius: 4px;
 }
 @media print {
   :root { --page: #fff; } * { print-color-adjust: exact; } header, nav, .tool, .help, .model { display: none; } #layout, .two, .stack { display: block; } main { padding: 0; }
-  .panel { break-inside: avoid; margin-bottom: .6rem; } .steps, .clip, .flow, .card > code { max-height: none; }
+  .panel { break-inside: avoid; margin-bottom: .6rem; } .steps, .clip, .flow, .card > code { max-height: none; } .lane, .scale { min-width: 0; }
 }
 </style>
 </head>
@@ -150,6 +165,7 @@ const LIST_STEP = 1000, MOST_NODES = 60; // how many entries the list shows at f
 let item = null; // the run or case that is shown
 let nodes = [], movesFrom = new Map(); // the states of its graph, or of its one order, and the moves from each; node 0 is the first
 let path = [], step = 0, isOwnPath = false; // the order that is shown, how many of its moves were made, whether the reader chose it
+let isInTime = false; // whether the calls have times, and the order of the verdict keeps to them
 let filter = 'failing', listLimit = LIST_STEP;
 
 // ---- Elements
@@ -337,6 +353,8 @@ const HEADINGS = {
   prefalse: 'This case is not valid: a precondition is false in some order',
   casefault: 'This case is not valid: the model faults in some order',
 };
+/** The verdict as a heading. */
+const heading = () => isInTime && item.verdict === 'unexplained' ? 'No order in time gives these answers' : HEADINGS[item.verdict] || item.line;
 const FAULTS = {DivZero: 'a division by zero', Overflow: 'a number beyond 64 bits', Index: 'an index outside a list', TooLong: 'a value that is too long',
   Turns: 'an evaluation that takes too many steps', Missing: 'a key that is not in the map'};
 const CALLBACKS = {post: 'postcondition', pre: 'precondition', next: 'next state'};
@@ -349,7 +367,7 @@ function blame() {
   if (ids.length === 1) return [ids, ' cannot be right, whatever the other calls answered', item.prefix ? '. The prefix alone shows it: no race is needed.' : '.'];
   return [join(ids, ', ', ' and '), isPair ? ' cannot both be right: ' : ' cannot all be right: ',
     orderCount() === 1 ? 'the model does not allow them together. '
-      : (item.in_time ? 'no order in time' : 'none of the ' + (orderCount() ? count(orderCount(), 'order') : 'orders')) + ' makes ' + (isPair ? 'both' : 'all of them') + ' right. ',
+      : (isInTime ? 'no order in time' : 'none of the ' + (orderCount() ? count(orderCount(), 'order') : 'orders')) + ' makes ' + (isPair ? 'both' : 'all of them') + ' right. ',
     isPair ? 'Either alone can be right.' : 'Without any one of them the others can be right.'];
 }
 
@@ -367,7 +385,7 @@ const LEADS = {
     return ['One after another', order && [', as in ', order], ', the calls answer exactly what the model says',
       unmet.length ? ['. The precondition of ', join(unmet, ', ', ' and '), ' is not true there; a recorded run may do that.'] : '.'];
   },
-  fault: () => ['No order explains the answers, and in some ', faultPlace(), '. ', isLeftOut('core') ? CORE_LEFT_OUT : core().length > 0 ? ['Besides, ', blame()] : 'No answer is to blame.'],
+  fault: () => ['No order ', isInTime && 'in time ', 'explains the answers, and in some ', faultPlace(), '. ', isLeftOut('core') ? CORE_LEFT_OUT : core().length > 0 ? ['Besides, ', blame()] : 'No answer is to blame.'],
   broken: () => {
     const {call: id, wanted} = item.broken, reply = call(id).reply.text;
     return [chip(id), NO_VALUE[reply] || ' answered something other than', ' a value of type ', h('code', null, wanted), ' (', reply, ').'];
@@ -436,6 +454,7 @@ function startItem() {
   }
   path = verdictPath();
   step = path.length;
+  isInTime = timed().length > 0 && path.every(move => overtaken(move).length === 0);
 }
 
 /** The order of the verdict; of a valid case any order. */
@@ -445,12 +464,35 @@ function verdictPath() {
   return found;
 }
 
+// ---- The order in time: a call that was answered before another began comes before it
+/** Whether a call of a branch is among those before a state. */
+function isBefore({id, part, index}, node) {
+  const {at} = nodes[node];
+  return at ? index <= at[branches().indexOf(part) + 1] : item.walk.steps.slice(0, node).some(made => made.call === id);
+}
+
+/** The calls that were answered before the call of a move began, and that the move leaves for later. */
+function overtaken({from, call: id}) {
+  const {part, time} = call(id), isOver = other => other.time && other.time[1] !== null && other.time[1] < time[0];
+  return time ? item.calls.filter(other => other.part !== part && isOver(other) && !isBefore(other, from)) : [];
+}
+const isLate = move => isInTime && overtaken(move).length > 0;
+const lateness = move => ['began after ', join(overtaken(move).map(({id}) => chip(id)), ', ', ' and '), ' had been answered'];
+
+/** The states that are reached in the order in time. */
+function statesInTime() {
+  const found = new Set([0]);
+  for (const node of found) for (const move of moves(node)) if (move.to !== undefined && !isLate(move)) found.add(move.to);
+  return found;
+}
+
 /** Shows the order after so many calls. */
 function goTo(steps) {
   if (nodes.length === 0) return;
   step = Math.max(0, Math.min(path.length, steps));
   update(true);
 }
+const goToCall = id => goTo(path.findIndex(move => move.call === id) + 1 || path.length);
 function choosePath(chosen, isOwn = true) {
   [path, isOwnPath] = [chosen, isOwn];
   goTo(path.length);
@@ -468,12 +510,61 @@ function reach(target) {
 
 // ---- The run, as cards
 function card(call) {
-  const wrong = blamed(call.id), values = wrong && allowedAnswers(wrong), goThere = () => goTo(path.findIndex(move => move.call === call.id) + 1 || path.length);
-  return button({class: 'card part-' + call.part + (wrong ? ' wrong' : ''), 'data-call': call.id, onclick: goThere},
+  const wrong = blamed(call.id), values = wrong && allowedAnswers(wrong);
+  return button({class: 'card part-' + call.part + (wrong ? ' wrong' : ''), 'data-call': call.id, onclick: () => goToCall(call.id)},
     h('span', {class: 'step', hidden: true}), h('span', {class: 'id'}, call.id), h('code', null, command(call)),
     answer(call) !== null && h('code', {class: 'reply'}, '→ ' + answer(call)),
     values && h('span', {class: 'note'}, 'the model ' + (wrong.allowed.only ? 'expects ' : 'allows '), values),
     wrong && wrong.wanted && h('span', {class: 'note'}, 'expected: ' + wrong.wanted));
+}
+
+// ---- The axis of time
+const timed = () => item.calls.filter(call => call.time).sort((a, b) => a.time[0] - b.time[0]);
+const against = () => item.in_time ? item.in_time.against : [];
+
+/** What a bar says, in sentences. */
+function timeText(call) {
+  const [began, answered] = call.time, isBlamed = core().some(answer => answer.call === call.id);
+  return [call.id + ' ' + command(call) + (hasValue(call) ? ' answered ' + middle(answer(call), 200) : ' gave no value') + '.',
+    'It began at ' + began + (answered === null ? ', and nobody knows when it was answered.' : ' and was answered at ' + answered + '.'),
+    isBlamed && 'Its answer is in the core.',
+    ...against().filter(({later}) => later === call.id).map(({earlier}) => 'It began after ' + earlier + ' had been answered.'),
+    ...against().filter(({earlier}) => earlier === call.id).map(({later}) => 'It had been answered before ' + later + ' began.')].filter(Boolean).join(' ');
+}
+
+/** The bar of a call, from the column of its beginning to that of its answer. An open bar goes on to the last column. */
+function bar(call, columns) {
+  const [began, answered] = call.time, isNamed = side => against().some(precedence => precedence[side] === call.id), text = timeText(call);
+  const kinds = {wrong: blamed(call.id), open: answered === null, first: isNamed('earlier'), second: isNamed('later')};
+  const element = button({class: ['bar part-' + call.part, ...Object.keys(kinds).filter(kind => kinds[kind])].join(' '), 'data-call': call.id, title: text, 'aria-label': text,
+    tabindex: call.id === timed()[0].id ? 0 : -1, onclick: () => goToCall(call.id)}, h('span', {class: 'id'}, call.id), h('code', {class: 'reply'}, '→ ' + middle(answer(call), 60)));
+  element.style.setProperty('grid-column', columns.get(began) + ' / ' + (answered === null ? -1 : columns.get(answered) + 1));
+  return element;
+}
+
+/** Explains the marks of the axis that it has. */
+function axisNotes() {
+  const rulesOut = item.in_time && ['The thick edges are against ', join([...item.in_time.without].map(chip), ' '), ': a call was answered, and another began after that.'];
+  return h('p', {class: 'soft'}, 'A bar goes from when its call began to when it was answered. ', timed().some(({time}) => time[1] === null) && 'An open bar has an end that nobody knows. ', rulesOut);
+}
+
+function axis() {
+  const isOpen = timed().some(({time}) => time[1] === null), times = timed().flatMap(({time}) => time).filter(time => time !== null);
+  const ticks = [...new Set(times)].sort((a, b) => a - b), columns = new Map(ticks.map((tick, i) => [tick, i + 1]));
+  const lane = branch => h('div', {class: 'lane part-' + branch, role: 'group', 'aria-label': 'Branch ' + branch}, h('b', {'aria-hidden': 'true'}, branch),
+    h('div', {class: 'bars'}, timed().filter(({part}) => part === branch).map(call => bar(call, columns))));
+  const element = h('div', {class: 'axis', role: 'group', 'aria-label': 'When each call began and was answered. The up and down arrows go from bar to bar.'}, branches().map(lane),
+    h('div', {class: 'scale soft', 'aria-hidden': 'true'}, h('span', null, ticks[0]), h('span', null, 'time →'), h('span', null, ticks[ticks.length - 1], isOpen && ' …')));
+  element.style.setProperty('--ticks', ticks.length + (isOpen ? 1 : 0));
+  return [h('p', {class: 'band'}, 'The same calls on one axis of time'), element, axisNotes()];
+}
+
+/** Moves the focus to the bar of the call that began `by` calls later. */
+function moveOnAxis(by) {
+  const bars = timed().map(({id}) => document.querySelector('.bar[data-call="' + id + '"]')), at = bars.indexOf(document.activeElement);
+  const next = bars[Math.max(0, Math.min(bars.length - 1, at + by))];
+  for (const other of bars) other.tabIndex = other === next ? 0 : -1;
+  next.focus();
 }
 
 function runPanel() {
@@ -485,6 +576,7 @@ function runPanel() {
     h('h2', null, item.kind === 'run' ? ['What was called', h('small', null, 'and what it answered')] : 'What is to be called'),
     hasPrefix && [band('First, one after another'), flow('P')],
     [...BRANCHES].some(branch => callsOf(branch).length > 0) && [band(hasPrefix ? 'Then, all branches at once' : 'All branches at once'), columns],
+    timed().length > 0 && axis(),
     callsOf('X').length > 0 && [band('At the end, one after another'), flow('X')]);
 }
 
@@ -494,7 +586,7 @@ const track = part => h('span', {class: 'track' + ('PX'.includes(part) ? ' all' 
 function orderTitle() {
   if (isOwnPath) return ['An order of your own', button({class: 'tool', 'data-key': 'back', onclick: () => choosePath(verdictPath(), false)}, 'back')];
   if (isLeftOut('walk')) return 'The order that gets furthest is left out: its search takes too many steps';
-  return item.walk ? ORDERS[item.walk.kind] : 'An order';
+  return item.walk ? (isInTime && item.walk.kind === 'furthest' ? 'The order in time that gets furthest' : ORDERS[item.walk.kind]) : 'An order';
 }
 
 function stepRow(steps, room) {
@@ -503,24 +595,27 @@ function stepRow(steps, room) {
   const attributes = {class: 'row part-' + (id || '-')[0] + (steps === step ? ' now' : steps > step ? ' after' : ''), 'data-key': 'step' + steps};
   return button({...attributes, 'aria-current': steps === step ? 'step' : null, onclick: () => goTo(steps)},
     h('span', {class: 'number'}, steps || ''), track(id ? id[0] : '-'),
-    id ? h('span', {class: 'text'}, chip(id), ' ', callAndAnswer(call(id)), unmet && h('span', {class: 'badge doubtful'}, 'precondition ' + unmet)) : h('span', {class: 'soft'}, 'at first'),
+    id ? h('span', {class: 'text'}, chip(id), ' ', callAndAnswer(call(id)), unmet && h('span', {class: 'badge doubtful'}, 'precondition ' + unmet),
+      isLate(path[steps - 1]) && h('span', {class: 'badge doubtful'}, 'against time')) : h('span', {class: 'soft'}, 'at first'),
     h('code', {class: 'text soft'}, changedState(before, state, room)));
 }
 
 function nextRow(move, room) {
   const next = call(move.call), state = nodes[nodeAfter(step)].state, what = h('span', {class: 'text'}, chip(move.call), ' ', callAndAnswer(next));
+  if (move.why && isLate(move)) return h('div', {class: 'row no'}, h('span', {class: 'number bad'}, '✗'), what, h('div', {class: 'text'}, lateness(move)));
   if (move.why) {
     const here = hasValue(next) && rule(next) !== 'true' && h('div', {class: 'soft'}, expression(rule(next), valuesOf(next, state)));
     return h('div', {class: 'row no'}, h('span', {class: 'number bad'}, '✗'), what, h('div', {class: 'text'}, h('div', null, reason(move.why, rule(next))), here));
   }
   return button({class: 'row', 'data-key': 'next' + move.call, onclick: () => path[step] === move ? goTo(step + 1) : choosePath([...path.slice(0, step), move])},
-    h('span', {class: 'number good'}, '✓'), what, h('code', {class: 'text soft'}, 'state ', changedState(spell(state), spell(nodes[move.to].state), room)));
+    isLate(move) ? [h('span', {class: 'number doubtful'}, '✗'), what, h('span', {class: 'text doubtful'}, lateness(move))]
+      : [h('span', {class: 'number good'}, '✓'), what, h('code', {class: 'text soft'}, 'state ', changedState(spell(state), spell(nodes[move.to].state), room))]);
 }
 
 function nextTitle(next) {
-  if (next.length === 0) return h('h3', {class: 'good'}, '✓ All calls fit');
-  if (!next.every(move => move.why)) return h('h3', null, 'What can come next ', next.length > 1 && item.graph && h('small', null, '(choose a call to try another order)'));
-  return h('h3', {class: 'bad'}, next.length === 1 ? 'Stuck: the only next call cannot come here' : 'Stuck: none of the next calls can come here');
+  if (next.length === 0) return path.some(isLate) ? h('h3', {class: 'doubtful'}, 'All calls fit, but not in order of time') : h('h3', {class: 'good'}, '✓ All calls fit');
+  if (!next.every(move => move.why || isLate(move))) return h('h3', null, 'What can come next ', next.length > 1 && item.graph && h('small', null, '(choose a call to try another order)'));
+  return h('h3', {class: 'bad'}, next.length === 1 ? 'Stuck: the only next call cannot come here' : 'Stuck: none of the next calls can come here' + (next.some(isLate) ? ' in order of time' : ''));
 }
 
 function showSteps() {
@@ -559,11 +654,11 @@ function layOut() {
   }
   const left = Math.min(...drawn.map(i => x[i])) - gap / 2 - 4, right = Math.max(...drawn.map(i => x[i])) + gap / 2 + 4;
   const top = i => level(i) * 86 + 7, bottom = i => top(i) + (refused[i] ? 44 : 26);
-  return {drawn, label, refused, width, x: i => x[i] - left, top, bottom, size: [Math.round(right - left), Math.max(...drawn.map(bottom)) + 8]};
+  return {drawn, label, refused, inTime: statesInTime(), width, x: i => x[i] - left, top, bottom, size: [Math.round(right - left), Math.max(...drawn.map(bottom)) + 8]};
 }
 
-function graphNode(i, {label, refused, width, x, top, bottom}) {
-  const kind = sum(nodes[i].at) === item.calls.length ? ' end' : refused[i] && moves(i).every(move => move.why) ? ' dead' : '';
+function graphNode(i, {label, refused, inTime, width, x, top, bottom}) {
+  const kind = !inTime.has(i) ? ' late' : sum(nodes[i].at) === item.calls.length ? ' end' : refused[i] && moves(i).every(move => move.why || isLate(move)) ? ' dead' : '';
   const reasons = moves(i).filter(move => move.why).map(move => '\n' + move.call + ' cannot come next: ' + move.why.text).join('');
   return h('g', {class: 'node' + kind, 'data-node': i, onclick: () => reach(i)}, h('title', null, 'state ' + spell(nodes[i].state) + reasons),
     h('rect', {x: x(i) - width / 2, y: top(i), width, height: bottom(i) - top(i), rx: 7}), h('text', {x: x(i), y: top(i) + 13}, label[i]),
@@ -572,7 +667,7 @@ function graphNode(i, {label, refused, width, x, top, bottom}) {
 
 function graphMove(move, index, {x, top, bottom}) {
   const [x1, y1, x2, y2] = [x(move.from), bottom(move.from), x(move.to), top(move.to)];
-  return h('g', {class: 'move part-' + move.call[0], 'data-move': index}, h('line', {x1, y1, x2, y2}), h('text', {x: x1 * .4 + x2 * .6, y: y1 * .4 + y2 * .6}, move.call));
+  return h('g', {class: 'move part-' + move.call[0] + (isLate(move) ? ' late' : ''), 'data-move': index}, h('line', {x1, y1, x2, y2}), h('text', {x: x1 * .4 + x2 * .6, y: y1 * .4 + y2 * .6}, move.call));
 }
 
 function graphPanel() {
@@ -584,7 +679,9 @@ function graphPanel() {
   svg.style.setProperty('min-width', Math.min(width, Math.max(width * .72, 300)) + 'px');
   return h('section', {class: 'panel', 'data-wide': width > 500, 'aria-label': 'All orders'},
     h('h2', null, 'All orders at a glance', h('small', null, orderCount() ? count(orderCount(), 'order') + ' through ' : '', count(nodes.length, 'position') + '. Each box is a state, each line a call. ',
-      places.refused.some(Boolean) && [h('b', {class: 'bad'}, '✗'), ' marks a call that cannot come next.'], item.verdict === 'unexplained' ? ' No way leads to the end.' : '')),
+      places.refused.some(Boolean) && [h('b', {class: 'bad'}, '✗'), ' marks a call that cannot come next.'],
+      item.graph.edges.some(isLate) && ' A dashed line goes against the order in time. ',
+      item.verdict === 'unexplained' && (item.graph.edges.some(isLate) ? ' Without dashed lines no way leads to the end.' : ' No way leads to the end.'))),
     h('div', {class: 'graph'}, svg));
 }
 
@@ -592,6 +689,8 @@ function graphPanel() {
 const HELP = ['A run is a record: which calls were made, and what each answered. The branches ran at the same time, so nothing is known about the order between them; within a branch, calls came from top to bottom.',
   'The model says what each call answers when calls come one after another. A run is explained if some order of its calls (an interleaving) gives exactly the recorded answers. The state is what the model holds between two calls.',
   'If no order does, the red calls are a core: their answers cannot all be right, but without any one of them the others can. Any of them may be the wrong one. The page then shows the order that gets furthest before no call fits.'];
+const TIMED_HELP = ['A run is a record: which calls were made, what each answered, and when. A call that was answered before another began comes before it in the order in time. Calls whose bars overlap can come in either order.',
+  'A run with times needs an order in time, that is one in which no call comes before a call that was answered before it began. Orders that go against it count only if times are left out.'];
 function modelPanel() {
   const line = (name, text) => [h('dt', null, name), h('dd', null, expression(text))];
   const title = (kind, {name, params, result}) => [h('dt', null, kind), h('dd', null, h('code', null, name + '(' + params.map(param => param.join(': ')).join(', ') + '): ' + result))];
@@ -603,11 +702,12 @@ function modelPanel() {
 /** Shows the current step: on the cards, in the graph and in the list of steps. `isSpoken` also tells it to screen readers. */
 function update(isSpoken) {
   const next = moves(nodeAfter(step)), made = path.slice(0, step), seen = new Set([0, ...made.map(move => move.to)]), last = made[step - 1];
-  for (const element of document.querySelectorAll('.card')) {
+  for (const element of document.querySelectorAll('.card, .bar')) {
     const id = element.dataset.call, at = made.findIndex(move => move.call === id), isStuck = next.some(move => move.call === id && move.why), number = element.querySelector('.step');
     element.classList.toggle('now', at >= 0 && at === step - 1);
     element.classList.toggle('later', nodes.length > 0 && at < 0 && !isStuck && !blamed(id));
     element.classList.toggle('stuck', isStuck);
+    if (!number) continue;
     number.textContent = isStuck ? '✗' : at >= 0 && BRANCHES.includes(id[0]) ? at + 1 : '';
     number.hidden = number.textContent === '';
   }
@@ -628,10 +728,10 @@ function render() {
   document.title = item.item + ' ' + item.line + ' – ' + model.name;
   byId('main').replaceChildren(...[
     h('div', {class: 'place'}, badge(item), h('span', null, (item.kind === 'run' ? 'Run ' : 'Case ') + item.item + (items.length > 1 ? ' of ' + items.length : '')), h('span', {class: 'mono'}, place(item))),
-    h('h1', null, HEADINGS[item.verdict] || item.line), LEADS[item.verdict] && h('p', {class: 'lead'}, LEADS[item.verdict]()), corePanels(), orderInTime(),
+    h('h1', null, heading()), LEADS[item.verdict] && h('p', {class: 'lead'}, LEADS[item.verdict]()), corePanels(), orderInTime(),
     ...(isWide ? [run, steps, callbackPanel()] : [h('div', {class: 'two'}, columns)]), isWideGraph && graph, modelPanel(),
-    h('details', {class: 'help'}, h('summary', null, 'How to read this page'), HELP.map(text => h('p', null, text))),
-    h('p', {class: 'help'}, keys(['←', '→'], 'step'), items.length > 1 && [keys(['j', 'k'], 'next and previous run'), keys(['/'], 'search')])].filter(Boolean));
+    h('details', {class: 'help'}, h('summary', null, 'How to read this page'), (timed().length > 0 ? [...TIMED_HELP, ...HELP.slice(1)] : HELP).map(text => h('p', null, text))),
+    h('p', {class: 'help'}, keys(['←', '→'], 'step'), timed().length > 0 && keys(['↑', '↓'], 'from bar to bar'), items.length > 1 && [keys(['j', 'k'], 'next and previous run'), keys(['/'], 'search')])].filter(Boolean));
   update();
   if (graph && !isWideGraph) columns[innerWidth > 860 && columns[0].offsetHeight < columns[1].offsetHeight ? 0 : 1].append(graph), update();
 }
@@ -691,12 +791,13 @@ function move(by) {
 }
 
 function pressed(event) {
-  const isTyping = event.target.tagName === 'INPUT', inList = event.target.closest('#list');
+  const isTyping = event.target.tagName === 'INPUT', inList = event.target.closest('#list'), inAxis = event.target.closest('.axis');
   if (isTyping && event.key === 'Escape') event.target.blur();
   if (isTyping || event.ctrlKey || event.metaKey || event.altKey) return;
   const moveInList = by => inList && (() => { move(by); document.querySelector('#list [aria-current]').focus(); });
+  const moveInAxis = by => inAxis && (() => moveOnAxis(by));
   const act = {ArrowRight: () => goTo(step + 1), ArrowLeft: () => goTo(step - 1), Home: () => goTo(0), End: () => goTo(path.length), j: () => move(1), k: () => move(-1),
-    '/': () => byId('search').focus(), ArrowDown: moveInList(1), ArrowUp: moveInList(-1)}[event.key];
+    '/': () => byId('search').focus(), ArrowDown: moveInList(1) || moveInAxis(1), ArrowUp: moveInList(-1) || moveInAxis(-1)}[event.key];
   if (act && item) event.preventDefault(), act();
 }
 
