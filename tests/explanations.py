@@ -17,7 +17,7 @@ NAMES = [[str]]
 ALLOWED = {"values": [VALUE], "all": bool, "only": bool}
 ITEM = {
     "item": int, "kind": ("run", "case"), "verdict": ("explained", "unexplained", "fault", "broken", "valid", "prefalse", "casefault"),
-    "line": str, "at": {"file": str, "line": int},
+    "line": str, "order?": ("time",), "at": {"file": str, "line": int},
     "calls": [{"id": str, "number": int, "part": tuple("PLRSTX"), "index": int, "op": str, "args": [VALUE], "reply?": VALUE,
                "time?": "time"}],
     "in_time?": {"without": str, "against": [{"earlier": "call", "later": "call"}]},
@@ -27,7 +27,7 @@ ITEM = {
     "callback?": {"call": "call or null", "callback": ("init", "pre", "next", "post"), "outcome": str, "expr": str, "names": NAMES,
                   "part?": {"expr": str, "names": NAMES, "function?": str}},
     "broken?": {"call": "call", "wanted": str},
-    "search": {"orders": int, "positions?": int, "moves?": int},
+    "search": {"orders?": int, "positions?": int, "moves?": int},
     "graph?": {"nodes": [{"at": [int], "state": str}], "edges": [{"from": "node", "call": "call", "to?": "node", "on?": bool, "why?": WHY}]},
 }
 PARAMS = [[str]]
@@ -110,7 +110,7 @@ class Text:
     """The text of an item, written from its JSON."""
 
     def __init__(self, document, item, is_timed):
-        self.item, self.lines = item, []
+        self.item, self.lines, self.is_timed = item, [], is_timed
         self.interleaving = "interleaving in order of time" if is_timed else "interleaving"
         self.calls = {call["id"]: call for call in item["calls"]}
         self.posts = {op["name"]: op["post"] for op in document["model"]["ops"]}
@@ -129,8 +129,14 @@ class Text:
     def replied(self, call):
         return self.call(call) + " -> " + (call["reply"]["text"] if "reply" in call else f"${call['number']}")
 
+    def time(self, call):
+        if not self.is_timed or "time" not in call:
+            return ""
+        began, answered = call["time"]
+        return f" ({began} {'-' if answered is None else answered})"
+
     def run(self, marked):
-        cell = lambda call: ("*" if call["id"] in marked else " ") + self.replied(call)
+        cell = lambda call: ("*" if call["id"] in marked else " ") + self.replied(call) + self.time(call)
         part = lambda letter: [cell(call) for call in self.calls.values() if call["part"] == letter]
         for each in part("P"):
             self.add(each)
@@ -261,26 +267,18 @@ def check_times(item, is_timed):
         assert any(order.index(each["later"]) < order.index(each["earlier"]) for each in against), f"nothing is against {word}"
 
 
-def overtakes(item, edge, pairs):
-    """Whether the call of an edge is the later one of a pair whose earlier one is not before the edge's node."""
-    at, calls = item["graph"]["nodes"][edge["from"]]["at"], {call["id"]: call for call in item["calls"]}
-    earlier = [calls[one] for one, later in pairs if later == edge["call"]]
-    return any(call["index"] > at["LRST".index(call["part"]) + 1] for call in earlier)
-
-
-def reaches_end(item, pairs):
-    """Whether a way through the graph leads to the end and has no later call of a pair before the earlier one."""
-    nodes, reached = item["graph"]["nodes"], {0}
-    for edge in sorted(item["graph"]["edges"], key=lambda edge: sum(nodes[edge["from"]]["at"])):
-        if edge["from"] in reached and "to" in edge and not overtakes(item, edge, pairs):
-            reached.add(edge["to"])
-    return any(sum(nodes[at]["at"]) == len(item["calls"]) for at in reached)
+def next_calls(item, node, is_timed):
+    """The calls that may come next at a node: that of the prefix, or those of the branches that no call that is left precedes, or that of the suffix."""
+    at = dict(zip(["P", *"LRST"[:len(item["graph"]["nodes"][node]["at"]) - 2], "X"], item["graph"]["nodes"][node]["at"]))
+    left = [call for call in item["calls"] if call["index"] > at[call["part"]]]
+    part = next((part for part in ("P", "LRST", "X") if any(call["part"] in part for call in left)), "")
+    return {call["id"] for call in left if call["part"] in part and call["index"] == at[call["part"]] + 1
+            and not (is_timed and any(precedes(other, call) for other in left))}
 
 
 def check_graph(item, is_timed):
-    """Checks that the graph of an item has its walk, that nothing can be tried that it has not, and what it has of the order in time."""
+    """Checks that the graph of an item has its walk, and that what is tried at each node is what may come next there."""
     graph, walk = item["graph"], item["walk"]
-    order = [(one["id"], other["id"]) for one in item["calls"] for other in item["calls"] if is_timed and precedes(one, other)]
     assert len(graph["nodes"]) == item["search"]["positions"] and len(graph["edges"]) == item["search"]["moves"]
     assert all(("to" in edge) != ("why" in edge) for edge in graph["edges"])
     at, way = 0, []
@@ -289,15 +287,13 @@ def check_graph(item, is_timed):
         at = edge["to"]
         way.append([edge["call"], graph["nodes"][at]["state"]])
     assert way == [[step["call"], step["state"]] for step in walk["steps"]] and graph["nodes"][0]["state"] == walk["start"]
-    stopped = [edge for edge in graph["edges"] if edge["from"] == at and "why" in edge and not overtakes(item, edge, order)]
+    stopped = [edge for edge in graph["edges"] if edge["from"] == at and "why" in edge]
     assert sorted(edge["call"] for edge in stopped) == sorted(each["call"] for each in walk["next"])
+    for node in range(len(graph["nodes"])):
+        tried = sorted(edge["call"] for edge in graph["edges"] if edge["from"] == node)
+        assert tried == sorted(next_calls(item, node, is_timed)), f"at node {node} {tried} are tried"
     if item["kind"] == "run" and item["verdict"] == "unexplained":
-        tried, ends = {edge["from"] for edge in graph["edges"]}, {at for at, node in enumerate(graph["nodes"]) if sum(node["at"]) == len(item["calls"])}
-        assert set(range(len(graph["nodes"]))) == tried | ends, "a position without a move"
-        against = [(each["earlier"], each["later"]) for each in item.get("in_time", {"against": []})["against"]]
-        assert reaches_end(item, []) == ("in_time" in item), "in_time and the graph do not agree on what explains the item without its times"
-        assert not reaches_end(item, order) and not reaches_end(item, against), "a way in the order in time leads to the end"
-        assert all(reaches_end(item, [other for other in against if other != each]) for each in against), f"{against} has more than is needed"
+        assert not any(sum(node["at"]) == len(item["calls"]) for node in graph["nodes"]), "a way leads to the end"
 
 
 def run(program, words, text):
@@ -335,6 +331,7 @@ def compare(program, words, text=None):
         assert NEEDED[item["verdict"]] <= set(item), f"item {item['item']} lacks a part"
         is_timed = "none" not in words and any("time" in call for call in item["calls"])
         check_times(item, is_timed)
+        assert not (is_timed and "orders" in item["search"])
         if "graph" in item:
             check_graph(item, is_timed)
         wanted = words_of("\n".join(Text(document, item, is_timed).lines))[0]

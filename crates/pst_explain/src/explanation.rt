@@ -13,7 +13,7 @@ use crate::failures::{
     Failure, failure_at_fault_place, failure_in_unknown_interleaving,
     failure_of_call_in_interleaving,
 };
-use crate::obstacles::obstacles_within_limit;
+use crate::obstacles::{RuledOut, obstacles_within_limit};
 use crate::places::TreePlace;
 use crate::walks::{
     InterleavingStates, furthest_interleaving_with_blocked_calls, states_of_explaining_interleaving,
@@ -24,7 +24,6 @@ use pst_judge::{
     CallOrder, Judged, RecordedOrder, Verdict, Why, verdict_with_interleaving_in_order,
 };
 use pst_model::Typed;
-use pst_precedence::Obstacles;
 use pst_reasons::{AnyOrder, Order, RecordedRun};
 use pst_scene::{CasePart, Scene, call_numbered, scene_of_run};
 use std::alloc::{AllocError, Global};
@@ -118,9 +117,8 @@ pub struct Explanation<'a> {
     pub reason: JudgementReason<'a>,
     /// Whether only the interleavings in the order of the recorded times count.
     pub is_timed: bool,
-    /// What the order in time rules out, if the item would be explained without it. `None` too if its search takes too
-    /// many steps.
-    pub obstacles: Option<Obstacles>,
+    /// What the order in time rules out.
+    pub ruled_out: RuledOut,
 }
 
 impl<'a> Explanation<'a> {
@@ -304,14 +302,14 @@ fn explain_invalid_case<'a>(
     }
 }
 
-/// What rules out an explanation of an item that no interleaving explains.
-fn obstacles_if_unexplained<C: Callbacks>(
+/// What the order in time rules out of an item that no interleaving explains.
+fn ruled_out_if_unexplained<C: Callbacks>(
     callbacks: &C,
     order: CallOrder,
     alloc: Global,
     run: &Run,
     judged: &Judged,
-) -> Result<Option<Obstacles>, AllocError>
+) -> Result<RuledOut, AllocError>
     requires shaped { run.now.shaped.model ≡ C.model callbacks.now }
     requires matches { HistoryMatches (C.model callbacks.now) run.now }
 {
@@ -319,7 +317,7 @@ fn obstacles_if_unexplained<C: Callbacks>(
         (Judged::Verdict(Verdict::Unexplained(_) | Verdict::Faulted(_)), Some(history)) => {
             obstacles_within_limit(callbacks, order, alloc, &run.shaped, history)
         }
-        _ => Ok(None),
+        _ => Ok(RuledOut::Nothing),
     }
 }
 
@@ -350,7 +348,7 @@ pub fn explain_item<'a, C: Callbacks>(
     requires judged { IsJudgementBy order (C.model callbacks.now) run.now judged.now }
 {
     let scene = scene_of_run(alloc, typed, run)?;
-    let obstacles = obstacles_if_unexplained(callbacks, order, alloc, run, judged)?;
+    let ruled_out = ruled_out_if_unexplained(callbacks, order, alloc, run, judged)?;
     let reason = match judged {
         Judged::Verdict(verdict) => match &run.history {
             Some(history) => explain_verdict(callbacks, order, alloc, &scene, history, verdict)?,
@@ -366,6 +364,6 @@ pub fn explain_item<'a, C: Callbacks>(
         scene,
         reason,
         is_timed: has_order_in_time(order, run),
-        obstacles,
+        ruled_out,
     })
 }

@@ -39,7 +39,7 @@ pub use failures::{
     ExpressionWithFaultyPart, ExpressionWithNameValues, Failure, FaultyPartWithValues,
 };
 pub use graph::graphviz_text_of_item_search;
-pub use obstacles::preceding_calls;
+pub use obstacles::{RuledOut, preceding_calls};
 pub use parts::time_of_call;
 pub use places::{TreePlace, tree_places_in_input};
 pub use position::GraphPosition;

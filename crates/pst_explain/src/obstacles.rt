@@ -15,26 +15,38 @@ use pst_scene::{
 };
 use std::alloc::{AllocError, Global};
 
-/// What rules out an explanation of a run that is not explained by `order`. `None` if nothing but the answers does,
-/// and if the search takes more than 2,000,000 steps of callbacks.
+/// What the order in time rules out of an item.
+#[derive(Drop)]
+pub enum RuledOut {
+    /// Nothing: the item is explained, or would not be without its times either.
+    Nothing,
+    /// Each explanation that the item would have without its times.
+    Explanations(Obstacles),
+    /// Nobody knows: the search takes too many steps.
+    Unknown,
+}
+
+/// Returns what the order in time rules out of a run that is not explained by `order`, if the search takes at most
+/// 2,000,000 steps of callbacks.
 pub fn obstacles_within_limit<C: Callbacks>(
     callbacks: &C,
     order: CallOrder,
     alloc: Global,
     shaped: &Shaped,
     history: &History,
-) -> Result<Option<Obstacles>, AllocError>
+) -> Result<RuledOut, AllocError>
     requires model { shaped.now.model ≡ C.model callbacks.now }
     requires matches { matches (C.model callbacks.now) shaped.now.case history.now ≡ true }
 {
     if order == CallOrder::Any || history.times.is_none() {
-        return Ok(None);
+        return Ok(RuledOut::Nothing);
     }
     let bounded = StepLimitedCallbacks::new(callbacks, MOST_STEPS);
     let found = find_obstacles(&bounded, alloc, shaped, history);
     match bounded.none_if_out_of_steps(found)? {
-        Some(found) => Ok(found),
-        None => Ok(None),
+        Some(Some(obstacles)) => Ok(RuledOut::Explanations(obstacles)),
+        Some(None) => Ok(RuledOut::Nothing),
+        None => Ok(RuledOut::Unknown),
     }
 }
 

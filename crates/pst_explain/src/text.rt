@@ -4,7 +4,7 @@ use crate::breaking::{CallWithBrokenReply, broken_reply_sentence};
 use crate::core_text::add_optional_core_and_run_text;
 use crate::explanation::{Explanation, JudgementReason};
 use crate::failure_text::add_failure_explanation_text;
-use crate::obstacles::add_obstacles_text;
+use crate::obstacles::{RuledOut, add_obstacles_text};
 use crate::parts::{MarkedRun, add_marked_run_text};
 use crate::walk_text::{
     add_blocked_calls_text, add_explaining_interleaving_with_precondition_notes,
@@ -149,15 +149,25 @@ fn add_broken_reply_and_run_text(
     add_marked_run_text(page, alloc, &run)
 }
 
-/// Adds what the order in time rules out, if that is known.
+/// What an explanation says in place of what the order in time rules out, if its search takes too many steps.
+const NO_OBSTACLES: &str =
+    "Whether anything would explain it without the order in time is left out: the search takes too many steps.";
+
+/// Adds what the order in time rules out.
 fn add_any_obstacles_text(
     page: &mut Page,
     alloc: Global,
     explanation: &Explanation<'_>,
 ) -> Result<(), AllocError> {
-    match &explanation.obstacles {
-        Some(obstacles) => add_obstacles_text(page, alloc, &explanation.scene, obstacles),
-        None => Ok(()),
+    match &explanation.ruled_out {
+        RuledOut::Nothing => Ok(()),
+        RuledOut::Explanations(obstacles) => add_obstacles_text(
+            page,
+            alloc,
+            &explanation.scene,
+            obstacles,
+        ),
+        RuledOut::Unknown => page.add_wrapped_sentence(alloc, 2, NO_OBSTACLES.as_bytes()),
     }
 }
 

@@ -11,7 +11,7 @@ use crate::reasons::{write_json_core_members, write_json_obstacles_member};
 use crate::walks::write_json_interleaving_states_member;
 use crate::writing::{into_page_safe_ascii_json, write_json_number_member, write_json_text_member};
 use json::Writer;
-use pst_explain::{Explanation, JudgementReason, TreePlace};
+use pst_explain::{Explanation, JudgementReason, RuledOut, TreePlace};
 use pst_judge::{Judged, Verdict, Why};
 use std::alloc::{AllocError, Global};
 
@@ -55,22 +55,20 @@ fn write_json_item_members_before_reason(
     write_json_text_member(writer, "kind", if is_run { "run" } else { "case" })?;
     write_json_text_member(writer, "verdict", json_judgement_name(explanation.judged))?;
     write_json_text_member(writer, "line", line.as_str())?;
+    if explanation.is_timed {
+        write_json_text_member(writer, "order", "time")?;
+    }
     if let Some(place) = &explanation.place {
         write_json_item_place_member(writer, place)?;
     }
     write_json_calls_member(writer, alloc, &explanation.scene)
 }
 
-/// Writes the member `left_out`: the members that are not whole, because their search takes too many steps.
-fn write_json_left_out_names_if_any(
+/// Writes the names of the members of a reason that are not whole.
+fn write_json_names_of_parts_left_out(
     writer: &mut Writer<Global>,
     reason: &JudgementReason<'_>,
 ) -> Result<(), AllocError> {
-    if !reason.has_part_left_out() {
-        return Ok(());
-    }
-    writer.key("left_out")?;
-    writer.begin_array()?;
     match reason.core() {
         Some(core) => {
             if core.is_cut {
@@ -81,6 +79,27 @@ fn write_json_left_out_names_if_any(
     }
     if reason.interleaving().is_none() {
         writer.string("walk")?;
+    }
+    Ok(())
+}
+
+/// Writes the member `left_out`: the members that are not whole, because their search takes too many steps.
+fn write_json_left_out_names_if_any(
+    writer: &mut Writer<Global>,
+    explanation: &Explanation<'_>,
+) -> Result<(), AllocError> {
+    let has_part_left_out = explanation.reason.has_part_left_out();
+    let is_time_left_out = matches!(explanation.ruled_out, RuledOut::Unknown);
+    if !has_part_left_out && !is_time_left_out {
+        return Ok(());
+    }
+    writer.key("left_out")?;
+    writer.begin_array()?;
+    if has_part_left_out {
+        write_json_names_of_parts_left_out(writer, &explanation.reason)?;
+    }
+    if is_time_left_out {
+        writer.string("in_time")?;
     }
     writer.end_array()
 }
@@ -96,7 +115,7 @@ fn write_json_reason_members(
     if let Some(core) = reason.core() {
         write_json_core_members(writer, alloc, model, core)?;
     }
-    if let Some(obstacles) = &explanation.obstacles {
+    if let RuledOut::Explanations(obstacles) = &explanation.ruled_out {
         write_json_obstacles_member(writer, alloc, &explanation.scene, obstacles)?;
     }
     if let Some(walk) = reason.interleaving() {
@@ -108,7 +127,7 @@ fn write_json_reason_members(
     if let JudgementReason::Broken(broken) = reason {
         write_json_call_with_broken_reply_member(writer, alloc, broken)?;
     }
-    write_json_left_out_names_if_any(writer, reason)
+    write_json_left_out_names_if_any(writer, explanation)
 }
 
 /// Returns the explanation of an item as a JSON object, without a line end. `trial` is the number of its trial, if it is a
