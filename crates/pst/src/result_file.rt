@@ -2,7 +2,7 @@
 
 use crate::outputs::{WriteErrorKeeper, print_output_error_unless_pipe_closed};
 use pst_cli::Status;
-use pst_sexpr::Out;
+use pst_sexpr::{Out, Sink};
 use std::fs::{OpenFile, OpenOptions, remove_file};
 use std::io::{self, Write};
 use std::rt::Files;
