@@ -1,5 +1,6 @@
 """The files that `bench/beside` measures, each made when it is first wanted."""
 import os
+import re
 import subprocess
 from functools import cached_property
 
@@ -24,6 +25,7 @@ MIB = 1 << 20
 RUNS = 1_000_000  # in a stream
 SEARCHES = 200  # in `searches`
 DRIVEN = 4_000  # in `driven`
+TIMED = 3_000  # in `timed`, which a file of 1 MiB has room for
 
 
 def initial(expression, head="model"):
@@ -158,13 +160,27 @@ class Inputs:
     def three(self):
         return self.made("three", self.text("queue.model"), f"(case (prefix) (branches ({puts(1, 5)}) ({puts(6, 10)}) ({puts(11, 15)})))\n")
 
-    @cached_property
-    def driven(self):
+    def driven_runs(self, *words):
+        """Returns the lines of runs of generated cases on the sample system `counter`."""
         cases = self.made("cases", self.text("counter.model"), self.printed("generate", self.counter, "--trials", str(DRIVEN)))
-        lines = self.printed("run", "--quiet", "counter", cases).splitlines(keepends=True)
+        lines = self.printed("run", "--quiet", *words, "counter", cases).splitlines(keepends=True)
         runs = [line for line in lines if line.startswith("(run")]
         assert len(runs) == DRIVEN, len(runs)
-        return self.made("driven", self.text("counter.model"), *runs)
+        return runs
+
+    @cached_property
+    def driven(self):
+        return self.made("driven", self.text("counter.model"), *self.driven_runs())
+
+    @cached_property
+    def timed(self):
+        return self.made("timed", self.text("counter.model"), *self.driven_runs("--order", "time")[:TIMED])
+
+    @cached_property
+    def untimed(self):
+        """The runs of `timed` without their times."""
+        with open(self.timed, encoding="utf-8") as file:
+            return self.made("untimed", re.sub(r" \(times .*\)\)$", ")", file.read(), flags=re.MULTILINE))
 
     @cached_property
     def trees(self):

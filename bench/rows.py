@@ -4,7 +4,7 @@ import re
 import subprocess
 from functools import cached_property
 
-from inputs import DRIVEN, RUNS, SEARCHES
+from inputs import DRIVEN, RUNS, SEARCHES, TIMED
 from measuring import EVERYWHERE, ONE, Aim, Failed, Group, Row, busy_loops, printed, seconds
 
 STEPS = 1_700  # of one search in `searches`
@@ -223,6 +223,9 @@ def searches(b):
     for what, name in [("1 MiB of runs of two commands", "cheap"), ("40 runs of eight `put`s beside eight", "costly")]:
         measures = {"all": of(b.pst, "judge", name), "one": of(b.pst, "judge", name, processors=ONE)}
         yield Group(measures, [Row(f"{what}, all processors", "ms", "all", "one", "1 processor")])
+    measures = {name: of(b.pst, "judge", name, unit=1e6 / TIMED, processors=ONE) for name in ("timed", "untimed")}
+    what = "a driven run of 16 commands with its times, read and judged, 1 processor"
+    yield Group(measures, [Row(what, "µs", "timed", "untimed", "without its times", Aim("at most", 1))])
     for what, command, name, runs in [
         ("eight reads beside eight, 12,870 interleavings, none explains", "judge", "eight", 20),
         ("four branches of four reads, 63,063,000 interleavings, none explains", "judge", "four", 20),

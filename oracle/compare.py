@@ -5,29 +5,19 @@ whole, and ends the comparison with status 1.
 """
 import collections
 import pathlib
-import subprocess
 import sys
 import tempfile
 from random import Random
 
+from asking import compare, output_of
 from campaigns import report
-from inputs import Inputs, campaign_model, campaign_plan
+from inputs import Inputs
 from judging import lines
 from language import Model
+from plans import campaign_model, campaign_plan
 from trees import read
 
 ITEMS = 6
-
-
-def output_of(program, *words):
-    ran = subprocess.run([program, *words, "--quiet"], stdout=subprocess.PIPE, timeout=120, check=False)
-    return ran.stdout.decode()
-
-
-def compare(source, wanted, found):
-    if wanted != found:
-        print(f"{source}\n\nthis implementation:\n{wanted}\nthe program:\n{found}")
-        sys.exit(1)
 
 
 def compare_judging(program, file, random):

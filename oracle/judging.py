@@ -1,4 +1,5 @@
 """Cases and recorded runs: how they are read, and the verdict on them, by a walk along every interleaving."""
+import functools
 from collections import namedtuple
 
 from language import Fault
@@ -183,35 +184,54 @@ def is_instant(word):
 # ---- interleavings
 
 
+@functools.lru_cache(maxsize=None)
 def merges(counts):
-    """The interleavings of branches with so many commands each, as lists of branch numbers, in their order."""
+    """The interleavings of branches with so many commands each, as tuples of branch numbers, in their order."""
     if sum(counts) == 0:
-        yield []
+        return ((),)
+    found = []
     for branch, count in enumerate(counts):
         if count > 0:
-            fewer = [*counts[:branch], count - 1, *counts[branch + 1:]]
-            for merge in merges(fewer):
-                yield [branch, *merge]
+            fewer = (*counts[:branch], count - 1, *counts[branch + 1:])
+            found += [(branch, *merge) for merge in merges(fewer)]
+    return tuple(found)
 
 
 def merges_of(parts):
-    return merges(lengths(parts)[1:-1])
+    return merges(tuple(lengths(parts)[1:-1]))
+
+
+@functools.lru_cache(maxsize=None)
+def places_of_calls(counts):
+    """For each interleaving the place of each call in it, by the call's branch and index."""
+    found = []
+    for merge in merges(counts):
+        places = [[] for _ in counts]
+        for place, branch in enumerate(merge):
+            places[branch].append(place)
+        found.append(places)
+    return found
+
+
+def precedences(times):
+    """The pairs of calls of which the first completed before the second was invoked; a call is its branch and index."""
+    calls = [((branch, index), time) for branch, part in enumerate(times) for index, time in enumerate(part)]
+    over = [(call, time.completed) for call, time in calls if time.completed is not None]
+    return [(call, other) for call, completed in over for other, time in calls if completed < time.invoked]
 
 
 def merges_in_time(item):
     """The interleavings in which no call is before one that completed before it was invoked; all, if there are no times."""
-    for merge in merges_of(item.parts):
-        if item.times is None or is_in_time(merge, item.times):
+    return merges_of(item.parts) if item.times is None else merges_keeping(item.parts, precedences(item.times))
+
+
+def merges_keeping(parts, pairs):
+    """The interleavings in which the first call of each pair is before the second."""
+    counts = tuple(lengths(parts)[1:-1])
+    pairs = [(*one, *other) for one, other in pairs]
+    for merge, places in zip(merges(counts), places_of_calls(counts)):
+        if all(places[one][index] < places[other][other_index] for one, index, other, other_index in pairs):
             yield merge
-
-
-def is_in_time(merge, times):
-    calls, done = [], [0] * len(times)
-    for branch in merge:
-        calls.append(times[branch][done[branch]])
-        done[branch] += 1
-    precedes = lambda one, other: one.completed is not None and one.completed < other.invoked
-    return not any(precedes(later, call) for place, call in enumerate(calls) for later in calls[place + 1:])
 
 
 def spelled(merge):
@@ -243,7 +263,7 @@ def validity(model, parts):
     try:
         start = model.run(model.single["init"], {})
     except Fault as fault:
-        return f"casefault 0 init {fault} merge {spelled(next(merges_of(parts)))}"
+        return f"casefault 0 init {fault} merge {spelled(merges_of(parts)[0])}"
     for merge in merges_of(parts):
         why = why_not_valid(model, parts, start, merge)
         if why is not None:
@@ -275,9 +295,9 @@ def verdict(model, item):
         start = model.run(model.single["init"], {})
     except Fault as fault:
         return f"fault 0 init {fault}"
-    first_fault, far = None, -1
+    first_fault, far, replays = None, -1, Replays(model, parts, replies, start)
     for merge in merges_in_time(item):
-        fault, true_events, is_true = replay(model, parts, replies, start, merge)
+        fault, true_events, is_true = replays.replay(merge)
         if is_true:
             return f"explained {spelled(merge)}"
         if fault is None:
@@ -286,23 +306,44 @@ def verdict(model, item):
     return first_fault or f"unexplained far {far}"
 
 
-def replay(model, parts, replies, state, merge):
-    """The fault of a merge, if it faults; how many of its events are true before that or a false one; and whether all are."""
-    commands, true_events = commands_of(parts), 0
-    recorded = lambda variable: Reference(variable.number, replies[variable.number - 1].value)
-    for index in order_of(parts, merge):
-        operation, answer = model.operations[commands[index].operation], replies[index].value
-        names = operation.names(state, [with_parts(argument, recorded) for argument in commands[index].arguments])
-        callback = "post"
-        try:
-            if not model.run(operation.callbacks["post"], {**names, "r": answer}):
-                return None, true_events, False
-            callback = "next"
-            state = model.run(operation.callbacks["next"], {**names, "r": Reference(index + 1, answer)})
-        except Fault as fault:
-            return f"fault {index + 1} {callback} {fault}", true_events, False
-        true_events += 1
-    return None, true_events, True
+class Replays:
+    """Replays of one interleaving after another. The events with which the one before began are not replayed again."""
+
+    def __init__(self, model, parts, replies, start):
+        self.model, self.parts, self.commands, self.replies = model, parts, commands_of(parts), replies
+        # The last order that was replayed, the initial state with those after its true events, and what came of it.
+        self.order, self.states, self.result = [], [start], None
+
+    def replay(self, merge):
+        """The fault of a merge, if it faults; how many of its events are true before that or a false one; and whether all are."""
+        order = order_of(self.parts, merge)
+        shared = next((place for place, pair in enumerate(zip(order, self.order)) if pair[0] != pair[1]), len(self.order))
+        self.order = order
+        if self.result is None or shared < len(self.states):
+            del self.states[shared + 1:]
+            self.result = self.replayed()
+        return self.result
+
+    def replayed(self):
+        """Replays what comes after the events of the kept states."""
+        for index in self.order[len(self.states) - 1:]:
+            callback = "post"
+            try:
+                names, operation = self.names(index), self.model.operations[self.commands[index].operation]
+                if not self.model.run(operation.callbacks["post"], {**names, "r": self.replies[index].value}):
+                    return None, len(self.states) - 1, False
+                callback = "next"
+                result = Reference(index + 1, self.replies[index].value)
+                self.states.append(self.model.run(operation.callbacks["next"], {**names, "r": result}))
+            except Fault as fault:
+                return f"fault {index + 1} {callback} {fault}", len(self.states) - 1, False
+        return None, len(self.states) - 1, True
+
+    def names(self, index):
+        """The names of a command's operation on the last state."""
+        recorded = lambda variable: Reference(variable.number, self.replies[variable.number - 1].value)
+        arguments = [with_parts(argument, recorded) for argument in self.commands[index].arguments]
+        return self.model.operations[self.commands[index].operation].names(self.states[-1], arguments)
 
 
 def lines(model, trees, in_time=True):

@@ -65,7 +65,7 @@ def spelled(tree):
 
 def is_integer(word):
     digits = word[1:] if word.startswith("-") else word
-    return digits != "" and all("0" <= digit <= "9" for digit in digits)
+    return digits.isascii() and digits.isdigit()
 
 
 def is_headed(tree, word):
