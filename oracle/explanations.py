@@ -79,7 +79,7 @@ class Checks:
         line = verdict(self.model, self.item)
         want(self.said["line"] == line and self.said["verdict"] == line.split()[0], f"the verdict is {line}")
         want("left_out" not in self.said, "something is left out")
-        want(self.said["search"]["orders"] == len(self.walks.all), f"there are {len(self.walks.all)} interleavings")
+        want(self.said["order"] == "time" and "orders" not in self.said["search"], "the order of the times is what counts")
         self.check_calls()
         is_explained = line.startswith("explained")
         want(("core" in self.said) == (not is_explained), "a core is there exactly if the run is not explained")
