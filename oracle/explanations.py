@@ -2,7 +2,7 @@
 
 Each number from FIRST on has a model with RUNS runs. Half of them were explained in order of time before one answer was changed. The
 others were explained before they got other times, and of every second one of these an answer was changed too. The checks are of what
-docs/json.md says of `core`, `allowed`, `only`, `why`, `walk` and `in_time`, and that nothing is left out. A file with an item of
+docs/json.md says of `core`, `allowed`, `only`, `why`, `walk`, `graph` and `in_time`, and that nothing is left out. A file with an item of
 which something else is said is printed whole, and ends the checks with status 1.
 """
 import collections
@@ -27,6 +27,7 @@ MOST_WORDS = 200
 MOST_TURNS = 300
 MOST_VALUES = 8
 MOST_BYTES = 4_000
+MOST_POSITIONS = 150
 TRIES = 8
 
 
@@ -86,6 +87,8 @@ class Checks:
         if not is_explained:
             self.check_core()
         self.check_walk(line)
+        if not is_explained:
+            self.check_graph()
         self.check_in_time(is_explained)
         self.counts[line.split()[0]] += 1
         return self.counts
@@ -214,6 +217,35 @@ class Checks:
             if "value" in one["why"].get("wants", {}) and one["why"]["part"] == spelled_tree(post):
                 value = value_of_tree(read(one["why"]["wants"]["text"])[0], self.model.has_maps, False)
                 want(self.walks.post(state, index, value) is True, f"{text_of(value)} is wrong for {one['call']}")
+
+    # -- the graph
+
+    def check_graph(self):
+        """The graph has the position after each true event, and for each call that may come next there the one after it, or none."""
+        wanted = collections.defaultdict(dict)
+        for walk in self.walks.in_time:
+            count = end_of(walk)[0]
+            for place, index in enumerate(walk.order[:count + 1]) if walk.states else []:
+                following = self.position(walk, place + 1) if place < count else None
+                wanted[self.position(walk, place)][self.ids[index]] = following
+        is_small = len(wanted) <= MOST_POSITIONS
+        want(("graph" in self.said) == is_small, f"a graph is there exactly if it has few positions, and it has {len(wanted)}")
+        if not is_small or any(len(state) > MOST_BYTES for _, state in wanted):
+            return
+        nodes = [(tuple(node["at"]), node["state"]) for node in self.said["graph"]["nodes"]]
+        found = {node: {} for node in nodes}
+        for edge in self.said["graph"]["edges"]:
+            found[nodes[edge["from"]]][edge["call"]] = nodes[edge["to"]] if "to" in edge else None
+        want(len(found) == len(nodes) and found == wanted, f"the graph is {dict(wanted)}")
+        self.counts["positions in graphs"] += len(nodes)
+
+    def position(self, walk, place):
+        """How many calls of each part are done before a place of a walk, and the state there."""
+        done, first = [], 0
+        for count in lengths(self.item.parts):
+            done.append(sum(first <= index < first + count for index in walk.order[:place]))
+            first += count
+        return tuple(done), text_of(walk.states[place])
 
     # -- the order in time
 
