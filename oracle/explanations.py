@@ -321,8 +321,8 @@ def check_file(program, file, random):
     for run, said in zip(chosen, document["items"], strict=True):
         try:
             counts.update(Checks(runs.of, run.item(), said).check())
-        except Difference as difference:
-            print(f"{text}\n{json.dumps(said)}\n\n{runs.text(run)}\nitem {said['item']}: {difference}")
+        except (Difference, KeyError) as difference:
+            print(f"{text}\n{json.dumps(said)}\n\n{runs.text(run)}\nitem {said['item']}: {difference!r}")
             sys.exit(1)
     return counts
 
