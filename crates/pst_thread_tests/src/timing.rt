@@ -5,7 +5,7 @@ use crate::test_systems::{MeetingFlags, Relay};
 use pst_case::{CallTime, Run, shape};
 use pst_driver::run_timed;
 use pst_eval::Plain;
-use pst_judge::{Valid, valid};
+use pst_judge::{Valid, precedes, valid};
 use pst_model::Typed;
 use pst_runs::read_runs;
 use pst_sexpr::read;
@@ -18,7 +18,7 @@ use std::test::Fail;
 use std::thread::Threads;
 
 /// How often each case is driven.
-const DRIVES: u32 = 250;
+const DRIVES: u32 = 1_000;
 
 /// The times of the calls of each branch.
 type Times = Items<Items<CallTime>>;
@@ -56,14 +56,6 @@ fn times_of_drive<R: Threads + Wait>(
 fn time_of_call(times: &Times, branch: usize, place: usize) -> Option<CallTime> {
     let call = times.as_slice().get(branch)?.as_slice().get(place)?;
     Some(*call)
-}
-
-/// Whether the first call completed before the second was invoked.
-fn precedes(first: CallTime, second: CallTime) -> bool {
-    match first.completed {
-        Some(at) => at < second.invoked,
-        None => false,
-    }
 }
 
 /// Whether the first call of the left branch precedes the second call of the right one, and not the other way.
