@@ -103,7 +103,7 @@ def axis_by_keys(pages):
 
 
 def order_in_time(pages):
-    """Of an item of which only the order in time counts the page says so, and neither its steps nor its graph go against that order."""
+    """If only the order in time counts, the page says so. No move of the graph goes against that order, and no call that it rules out can be chosen."""
     browser = pages.open("times", 1)
     want("The order in time that gets furthest" in browser.text("#steps h2"), browser.text("#steps h2"))
     words = browser.text('[aria-label="All orders"] h2')
