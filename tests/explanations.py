@@ -329,9 +329,10 @@ def compare(program, words, text=None):
     long = 0
     for item, got in zip(document["items"], shown):
         assert NEEDED[item["verdict"]] <= set(item), f"item {item['item']} lacks a part"
-        is_timed = "none" not in words and any("time" in call for call in item["calls"])
+        is_timed, has_times = "order" in item, any("time" in call for call in item["calls"])
+        assert not is_timed if "none" in words else is_timed or not has_times, f"item {item['item']} has another order"
+        assert ("orders" in item["search"]) != is_timed
         check_times(item, is_timed)
-        assert not (is_timed and "orders" in item["search"])
         if "graph" in item:
             check_graph(item, is_timed)
         wanted = words_of("\n".join(Text(document, item, is_timed).lines))[0]

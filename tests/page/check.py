@@ -5,11 +5,12 @@ Then it opens pages with a fault and checks that the check for it fails. The sta
 import os
 import sys
 import tempfile
-import time
+from time import time
 
 sys.path.insert(0, os.path.dirname(os.path.realpath(__file__)))
 import checks
 import documents
+import times
 from browser import Browser
 from mutations import MUTATIONS
 
@@ -51,6 +52,7 @@ def data_of(program):
         data[name] = documents.PAGE.DATA.search(page)[0]
         checks.want(page == documents.filled(template, data[name]), name, "is not assets/page.html with data")
     data["long"] = documents.long_reply(data["lost"])
+    data["cut"] = documents.cut(data["times"])
     data["many"] = documents.many(data["store"], 2000)
     return data
 
@@ -68,13 +70,13 @@ def main(program, *names):
     data, failed = data_of(program), 0
     browser = Browser()
     with tempfile.TemporaryDirectory(prefix="pst-page-") as folder:
-        for check in checks.CHECKS:
+        for check in checks.CHECKS + times.CHECKS:
             if names and check.__name__ not in names:
                 continue
-            start = time.time()
+            start = time()
             why = failure(check, Pages(browser, folder, data, documents.template()))
             failed += why is not None
-            print("%-4s %-16s %.1f s %s" % ("BAD" if why else "ok", check.__name__, time.time() - start, why or ""), flush=True)
+            print("%-4s %-16s %.1f s %s" % ("BAD" if why else "ok", check.__name__, time() - start, why or ""), flush=True)
         for check, fault, change, change_data in MUTATIONS:
             if names and check.__name__ not in names:
                 continue

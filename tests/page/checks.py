@@ -52,14 +52,6 @@ WALK = r"""(() => {
 })()"""
 
 
-# The sides of each bar of the axis, and of the axis itself.
-SIDES = """(() => {
-  const sides = element => (box => [box.left, box.right])(element.getBoundingClientRect());
-  const bars = [...document.querySelectorAll('.bar')].map(bar => [bar.dataset.call, sides(bar)]);
-  return Object.fromEntries([...bars, ['axis', sides(document.querySelector('.bars'))]]);
-})()"""
-
-
 def want(condition, *details):
     """Raises an error with the details if the condition does not hold."""
     if not condition:
@@ -87,22 +79,9 @@ def headline(pages):
     want(browser.run("document.title").startswith("1 unexplained far 1"), browser.run("document.title"))
 
 
-def times(item):
-    """Returns the times of the calls that have one."""
-    return {call["id"]: call["time"] for call in item["calls"] if "time" in call}
-
-
-def precedes(item, earlier, later):
-    """Returns whether a call was answered before another began."""
-    time = times(item)
-    return earlier in time and later in time and time[earlier][1] is not None and time[earlier][1] < time[later][0]
-
-
 def heading(item):
-    """Returns the heading of an item: of one with times it names the order in time, unless the order of the verdict goes against it."""
-    order = [step["call"] for step in item.get("walk", {"steps": []})["steps"]]
-    against = any(precedes(item, other, call) for at, call in enumerate(order) for other in times(item) if other not in order[:at])
-    return IN_TIME if item["verdict"] == "unexplained" and times(item) and not against else HEADINGS[item["verdict"]]
+    """Returns the heading of an item, which names the order in time if that alone counts."""
+    return IN_TIME if item["verdict"] == "unexplained" and item.get("order") == "time" else HEADINGS[item["verdict"]]
 
 
 def names(browser, role):
@@ -288,92 +267,12 @@ def tabbing(pages):
     want({"L1", "R1", "previous", "step0", "step1", "SUMMARY"} <= seen, seen)
 
 
-def axis(pages):
-    """Each call with times is a bar in the lane of its branch: left of all that began after its answer, and over those that it overlaps."""
-    for name, width in ("times", 1280), ("times", 400), ("any", 1280):
-        for item in pages.items(name):
-            browser, time = pages.open(name, item["item"], width=width), times(item)
-            if not time:
-                want(not browser.texts(".axis") and not browser.texts(".bar"), name, item["item"], "has an axis")
-                continue
-            side, ends = browser.run(SIDES), [tick for pair in time.values() for tick in pair]
-            last = side.pop("axis")[1]
-            want(set(side) == set(time) and len(browser.texts(".bar")) == len(time), name, item["item"], side)
-            for lane in browser.texts(".lane > b"):
-                inside = browser.run("[...document.querySelectorAll('.lane.part-%s .bar')].map(bar => bar.dataset.call)" % lane)
-                want(inside == [call["id"] for call in item["calls"] if call["part"] == lane], name, item["item"], lane, inside)
-            for one in time:
-                reaches_end = time[one][1] is None or None not in ends and time[one][1] == max(ends)
-                want((side[one][1] > last - 3) == reaches_end, name, item["item"], one, side[one], last)
-                for other in time:
-                    want((side[one][1] <= side[other][0]) == precedes(item, one, other), name, item["item"], one, other, side)
-                    want((side[one][0] < side[other][0]) == (time[one][0] < time[other][0]), name, item["item"], one, other, side)
-    want(not pages.open("lost").texts(".axis"), "a run without times has an axis")
-
-
-def axis_words(pages):
-    """Each bar has its call, its answer, and its times in words; marks tell the core, open ends, and what is against another order."""
-    browser = pages.open("times", 3)
-    spoken = [name for name in names(browser, "button") if " began at " in name]
-    want(spoken == ['L1 put("a", 1) answered true. It began at 0 and was answered at 2. It had been answered before S1 began.',
-                    'L2 put("c", 1) answered true. It began at 5, and nobody knows when it was answered.',
-                    'R1 put("b", 1) answered true. It began at 1 and was answered at 3. It had been answered before S1 began.',
-                    "S1 size() answered 1. It began at 4 and was answered at 6. Its answer is in the core. "
-                    "It began after L1 had been answered. It began after R1 had been answered."], spoken)
-    groups = names(browser, "group")
-    want(groups[0].startswith("When each call began and was answered.") and groups[1:4] == ["Branch L", "Branch R", "Branch S"], groups)
-    want(browser.run("[...document.querySelectorAll('.bar')].every(bar => bar.title === bar.getAttribute('aria-label'))"), "other words for the mouse")
-    want(browser.texts(".bar") == ["L1→ true", "L2→ true", "R1→ true", "S1→ 1"], browser.texts(".bar"))
-    marked = lambda kind: browser.run("[...document.querySelectorAll('.bar.%s')].map(bar => bar.dataset.call).join(' ')" % kind)
-    want([marked(kind) for kind in ("wrong", "open", "first", "second")] == ["S1", "L2", "L1 R1", "S1"], "the marks")
-    notes = " ".join(browser.text(".axis + p").split())
-    want("An open bar has an end that nobody knows. The thick edges are against L S L R" in notes, notes)
-    want("S1 began after L1 had been answered and S1 began after R1 had been answered." in browser.text("#in-time"), browser.text("#in-time"))
-    want(pages.open("times", 1).text(".scale").split() == ["0", "time", "→", "3"], browser.text(".scale"))
-    want(pages.open("times", 8).texts(".bar")[1] == "L2→ failed" and "L2 size() gave no value." in browser.run("document.querySelectorAll('.bar')[1].title"))
-
-
-def axis_by_keys(pages):
-    """The tab key reaches the axis once, the up and down arrows go from bar to bar in the order of time, and enter goes to the call."""
-    browser, seen = pages.open("times", 3), []
-    for _ in range(30):
-        browser.key("Tab")
-        seen.append(browser.run("(e => e.classList.contains('bar') ? e.dataset.call : '')(document.activeElement)"))
-    want(seen.count("L1") == 1 and set(seen) == {"", "L1"}, seen)
-    focused = lambda: browser.run("document.activeElement.dataset.call")
-    browser.run("document.querySelector('.bar').focus()")
-    for key, call in ("ArrowDown", "R1"), ("ArrowDown", "S1"), ("ArrowDown", "L2"), ("ArrowDown", "L2"), ("ArrowUp", "S1"), ("ArrowUp", "R1"):
-        browser.key(key)
-        want(focused() == call, key, focused())
-    browser.key("Enter")
-    want(step(browser) == "2 of 3" and focused() == "R1", step(browser))
-    want(browser.run("document.querySelector('.bar.now').dataset.call") == "R1", "the bar of the step is not marked")
-    browser.key("ArrowLeft")
-    want(step(browser) == "1 of 3" and focused() == "R1" and browser.run("document.querySelector('.bar.now').dataset.call") == "L1", step(browser))
-    browser.click('.bar[data-call="L2"]')
-    want(step(browser) == "3 of 3", "a click on a bar:", step(browser))
-
-
-def order_in_time(pages):
-    """A call that goes against the order in time is told from one that can come next, and so is a way to the end."""
-    browser = pages.open("times", 1)
-    want(browser.text("h1") == IN_TIME and "The order in time that gets furthest" in browser.text("#steps h2"), browser.text("#steps h2"))
-    want(browser.texts(".graph .move.late text") == ["R1"] and len(browser.texts(".graph .node.late")) == 3, browser.texts(".graph .move.late text"))
-    words = browser.text('[aria-label="All orders"] h2')
-    want(not browser.texts(".graph .node.end") and "Without dashed lines no way leads to the end." in words, words)
-    browser.key("ArrowLeft")
-    rows = browser.texts(".next .row")
-    want(len(rows) == 2 and rows[0].startswith("✓L1") and rows[1].startswith("✗R1") and rows[1].endswith("began after L1 had been answered"), rows)
-    browser.click('[data-key="nextR1"]')
-    want("against time" in browser.texts(".steps .row")[-1] and "against time" not in browser.texts(".steps .row")[-2], browser.texts(".steps .row"))
-    browser.click('[data-key="nextL1"]')
-    browser.click('[data-key="nextX1"]')
-    want(browser.text(".next h3") == "All calls fit, but not in order of time", browser.text(".next h3"))
-    browser = pages.open("times", 4)
-    want(browser.text(".next h3") == "✓ All calls fit" and "against" not in browser.text("#steps"), browser.text(".next h3"))
-    browser = pages.open("any", 1)
-    want(browser.text("h1") == HEADINGS["explained"] and len(browser.texts(".bar")) == 2 and not browser.texts("#in-time"), browser.text("h1"))
-    want("against" not in browser.text("main"), "the order in time counts")
+def left_out(pages):
+    """What is missing because its search takes too many steps is named."""
+    browser = pages.open("cut")
+    for selector, words in (".lead", "Which answers cannot all be right is left out"), ("#steps h2", "The order that gets furthest is left out"), (
+            "#in-time", "Whether any order would explain it without its times is left out"):
+        want(words in (browser.text(selector) or ""), selector, browser.text(selector))
 
 
 def many_items(pages):
@@ -402,4 +301,4 @@ def campaigns(pages):
 
 
 CHECKS = [campaigns, headline, steps_by_keys, other_orders, finding, every_verdict, widths, hostile_texts, policy, quiet, style_first, long_texts, colors, printing, tabbing,
-          axis, axis_words, axis_by_keys, order_in_time, many_items]
+          left_out, many_items]

@@ -74,6 +74,24 @@ def long_reply(document):
     return escaped(changed)
 
 
+def cut(document):
+    """Returns a document whose first item lacks what a search of too many steps leaves out."""
+    changed = json.loads(document)
+    item = changed["items"][0]
+    item["left_out"] = ["core", "walk", "in_time"]
+    for member in item["left_out"]:
+        item.pop(member)
+    return escaped(changed)
+
+
+def with_late_moves(document):
+    """Returns a document in which each graph has another move of its last call, from the first state."""
+    changed = json.loads(document)
+    for edges in (item["graph"]["edges"] for item in changed["items"] if "graph" in item):
+        edges.append({**edges[-1], "from": 0})
+    return escaped(changed)
+
+
 def many(document, count):
     """Returns a document with the items repeated, so that there are `count`."""
     changed = json.loads(document)

@@ -1,6 +1,7 @@
 """Faults of the page, each with the check that has to see it."""
 import checks
-from documents import without_policy
+import times
+from documents import with_late_moves, without_policy
 
 
 def edit(old, new):
@@ -49,18 +50,23 @@ MUTATIONS = [
     (checks.colors, "a color that is too light", edit("--soft: #63686f;", "--soft: #a3a8af;"), same),
     (checks.colors, "no dark colors", edit("(prefers-color-scheme: dark)", "(prefers-color-scheme: none)"), same),
     (checks.printing, "a list on paper", edit("header, nav, .tool, .help, .model { display: none; }", ""), same),
-    (checks.axis, "bars that all begin at once", edit("columns.get(began) + ' / '", "'1 / '"), same),
-    (checks.axis, "bars without their last tick", edit("columns.get(answered) + 1)", "columns.get(answered))"), same),
-    (checks.axis, "open bars that end at once", edit("(answered === null ? -1 :", "(answered === null ? columns.get(began) + 1 :"), same),
-    (checks.axis, "bars in the order of the file", edit("sort((a, b) => a - b), columns", "slice(), columns"), same),
-    (checks.axis, "an axis without times", edit("timed().length > 0 && axis(),", "axis(),"), same),
-    (checks.axis_words, "bars without words", edit("title: text, 'aria-label': text,", ""), same),
-    (checks.axis_words, "edges that are not marked", edit("first: isNamed('earlier'),", ""), same),
-    (checks.axis_by_keys, "a stop of the tab key at each bar", edit("tabindex: call.id === timed()[0].id ? 0 : -1,", ""), same),
-    (checks.axis_by_keys, "bars that arrows do not reach", edit("moveInAxis = by => inAxis &&", "moveInAxis = by => false &&"), same),
-    (checks.axis_by_keys, "bars that are not marked at their step", edit("'.card, .bar'", "'.card'"), same),
-    (checks.order_in_time, "an order that goes against the times", edit("isLate = move => isInTime &&", "isLate = move => false &&"), same),
-    (checks.order_in_time, "times that count though none were asked for", edit("&& path.every(move => overtaken(move).length === 0)", ""), same),
+    (times.axis, "bars that all begin at once", edit("columns.get(began) + ' / '", "'1 / '"), same),
+    (times.axis, "bars without their last tick", edit("columns.get(answered) + 1)", "columns.get(answered))"), same),
+    (times.axis, "open bars that end at once", edit("(answered === null ? -1 :", "(answered === null ? columns.get(began) + 1 :"), same),
+    (times.axis, "bars in the order of the file", edit("sort((a, b) => a - b), columns", "slice(), columns"), same),
+    (times.axis, "an axis without times", edit("timed().length > 0 && axis(),", "axis(),"), same),
+    (times.axis_words, "bars without words", edit("title: text, 'aria-label': text,", ""), same),
+    (times.axis_words, "edges that are not marked", edit("first: isNamed('earlier'),", ""), same),
+    (times.axis_by_keys, "a stop of the tab key at each bar", edit("tabindex: call.id === timed()[0].id ? 0 : -1,", ""), same),
+    (times.axis_by_keys, "bars that arrows do not reach", edit("moveInAxis = by => inAxis &&", "moveInAxis = by => false &&"), same),
+    (times.axis_by_keys, "bars that are not marked at their step", edit("'.card, .bar'", "'.card'"), same),
+    (times.order_in_time, "an order in time of which nothing tells", edit("isInTime = () => item.order === 'time'", "isInTime = () => false"), same),
+    (times.order_in_time, "a graph that does not tell whose orders it has", edit("isInTime() ? 'These are the orders in time, through ' :", ""), same),
+    (times.order_in_time, "moves against the order in time", same, with_late_moves),
+    (times.order_none, "times that count though none were asked for", edit("isInTime = () => item.order === 'time'", "isInTime = () => timed().length > 0"), same),
+    (times.order_none, "help on an order that does not count", edit("(isInTime() ? [...TIMED_HELP", "(timed().length > 0 ? [...TIMED_HELP"), same),
+    (times.order_none, "an axis only if its order counts", edit("timed().length > 0 && axis(),", "isInTime() && axis(),"), same),
+    (checks.left_out, "a search that is left out without a word", edit("if (isLeftOut('in_time'))", "if (false)"), same),
     (checks.widths, "an axis that is as wide as its ticks", edit(".axis { overflow-x: auto; ", ".axis { "), same),
     (checks.tabbing, "cards that are no buttons", edit("return button({class: 'card part-'", "return h('div', {class: 'card part-'"), same),
 ]

@@ -7,7 +7,7 @@ pub const BEFORE_DATA: &str = r##"<!DOCTYPE html>
 <head>
 <meta charset="utf-8">
 <meta name="viewport" content="width=device-width, initial-scale=1">
-<meta http-equiv="Content-Security-Policy" content="default-src 'none'; style-src 'sha256-4f+nAXZBPvVxroygM49VfBKdyXZQgQm7+1Qa3PsocgM='; script-src 'sha256-8dMHAG2flEZO8KlpsGqUCwUsph60yOFwGeVS5w55zfg='; base-uri 'none'; form-action 'none'">
+<meta http-equiv="Content-Security-Policy" content="default-src 'none'; style-src 'sha256-AOUxHUujGZzrf7FBY24ZPQu5mez8hyzs5Qqq6AJ7RZ0='; script-src 'sha256-kU9GxRuhLvtBP+sUhPbNussSJelnAJswRJsXvorBJ+0='; base-uri 'none'; form-action 'none'">
 <title>pst explain</title>
 <style>
 /* A color for each branch, and pairs of colors for wrong, right and doubtful. Each is doubled by a letter or a sign. */
@@ -105,7 +105,7 @@ h3 { font-size: .86rem; margin-bottom: .3rem; } h2 small, h3 small { font-weight
 .row:hover, .row.now { background: var(--sunk); } .row.now { box-shadow: inset 3px 0 var(--ink); }
 .row.after, .row.after .id { color: var(--soft); } .row.after .value { font-weight: 400; } .row.after mark { background: none; color: inherit; } .row.after i::after { opacity: .4; }
 .row > .text { display: -webkit-box; -webkit-box-orient: vertical; -webkit-line-clamp: 4; overflow: hidden; }
-.row .number { text-align: right; color: var(--soft); font-size: .8rem; } .row .number.bad { color: var(--bad); } .row .number.good { color: var(--good); } .row .number.doubtful { color: var(--warn); }
+.row .number { text-align: right; color: var(--soft); font-size: .8rem; } .row .number.bad { color: var(--bad); } .row .number.good { color: var(--good); }
 .row.head { min-height: 0; font-size: .78rem; background: none; }
 .track { display: flex; align-self: stretch; margin: -.12rem 0; } .track > * { width: 1.1rem; position: relative; text-align: center; color: var(--part); }
 .track i::before { content: ""; position: absolute; left: calc(50% - 1px); top: 0; bottom: 0; border-left: 2px solid var(--line); }
@@ -113,12 +113,11 @@ h3 { font-size: .86rem; margin-bottom: .3rem; } h2 small, h3 small { font-weight
 .track.all i::after { content: ""; position: absolute; left: 0; right: 0; top: calc(50% - 2px); height: 4px; background: var(--alone); }
 .next { margin-top: .6rem; border-top: 1px solid var(--line); padding-top: .6rem; }
 .next .row { grid-template-columns: 1.5rem minmax(0, 1fr) minmax(0, 1.1fr); } .next .row.no { background: var(--bad-panel); margin-bottom: 3px; }
-.doubtful { color: var(--warn); }
 
 /* The graph of all orders, the model, and the help. */
 .graph { overflow-x: auto; } .graph svg { display: block; margin: 0 auto; max-width: 100%; height: auto; font: 12px var(--mono); }
 .graph text { fill: var(--ink); text-anchor: middle; dominant-baseline: central; }
-.graph .move line { stroke: var(--part); stroke-width: 1.5; opacity: .55; } .graph .move.on line { stroke-width: 4; opacity: 1; } .graph .late line, .graph .late rect { stroke-dasharray: 4 4; }
+.graph .move line { stroke: var(--part); stroke-width: 1.5; opacity: .55; } .graph .move.on line { stroke-width: 4; opacity: 1; }
 .graph .move text { fill: var(--part); font-weight: 700; font-size: 11px; paint-order: stroke; stroke: var(--panel); stroke-width: 5px; }
 .graph .node { cursor: pointer; } .graph .node rect { fill: var(--panel); stroke: var(--soft); } .graph .node:hover rect { stroke-width: 2.5; }
 .graph .dead rect { fill: var(--bad-panel); stroke: var(--bad-line); } .graph .end rect { fill: var(--good-panel); stroke: var(--good); stroke-width: 2.5; }
@@ -165,7 +164,6 @@ const LIST_STEP = 1000, MOST_NODES = 60; // how many entries the list shows at f
 let item = null; // the run or case that is shown
 let nodes = [], movesFrom = new Map(); // the states of its graph, or of its one order, and the moves from each; node 0 is the first
 let path = [], step = 0, isOwnPath = false; // the order that is shown, how many of its moves were made, whether the reader chose it
-let isInTime = false; // whether the calls have times, and the order of the verdict keeps to them
 let filter = 'failing', listLimit = LIST_STEP;
 
 // ---- Elements
@@ -296,6 +294,7 @@ const core = () => item.core || [];
 const isLeftOut = member => (item.left_out || []).includes(member);
 const blamed = id => core().find(answer => answer.call === id) || (item.broken && item.broken.call === id ? item.broken : null);
 const orderCount = () => item.search && item.search.orders;
+const isInTime = () => item.order === 'time'; // whether only orders in time count
 const command = ({op, args}, owner = item) => op + '(' + args.map(value => spell(value.text, owner)).join(', ') + ')';
 const answer = (call, owner = item) => call.reply ? spell(call.reply.text, owner) : null;
 const hasValue = call => call.reply && !['misfit', 'failed', 'not-run'].includes(call.reply.text);
@@ -354,7 +353,7 @@ const HEADINGS = {
   casefault: 'This case is not valid: the model faults in some order',
 };
 /** The verdict as a heading. */
-const heading = () => isInTime && item.verdict === 'unexplained' ? 'No order in time gives these answers' : HEADINGS[item.verdict] || item.line;
+const heading = () => isInTime() && item.verdict === 'unexplained' ? 'No order in time gives these answers' : HEADINGS[item.verdict] || item.line;
 const FAULTS = {DivZero: 'a division by zero', Overflow: 'a number beyond 64 bits', Index: 'an index outside a list', TooLong: 'a value that is too long',
   Turns: 'an evaluation that takes too many steps', Missing: 'a key that is not in the map'};
 const CALLBACKS = {post: 'postcondition', pre: 'precondition', next: 'next state'};
@@ -367,7 +366,7 @@ function blame() {
   if (ids.length === 1) return [ids, ' cannot be right, whatever the other calls answered', item.prefix ? '. The prefix alone shows it: no race is needed.' : '.'];
   return [join(ids, ', ', ' and '), isPair ? ' cannot both be right: ' : ' cannot all be right: ',
     orderCount() === 1 ? 'the model does not allow them together. '
-      : (isInTime ? 'no order in time' : 'none of the ' + (orderCount() ? count(orderCount(), 'order') : 'orders')) + ' makes ' + (isPair ? 'both' : 'all of them') + ' right. ',
+      : (isInTime() ? 'no order in time' : 'none of the ' + (orderCount() ? count(orderCount(), 'order') : 'orders')) + ' makes ' + (isPair ? 'both' : 'all of them') + ' right. ',
     isPair ? 'Either alone can be right.' : 'Without any one of them the others can be right.'];
 }
 
@@ -385,7 +384,7 @@ const LEADS = {
     return ['One after another', order && [', as in ', order], ', the calls answer exactly what the model says',
       unmet.length ? ['. The precondition of ', join(unmet, ', ', ' and '), ' is not true there; a recorded run may do that.'] : '.'];
   },
-  fault: () => ['No order ', isInTime && 'in time ', 'explains the answers, and in some ', faultPlace(), '. ', isLeftOut('core') ? CORE_LEFT_OUT : core().length > 0 ? ['Besides, ', blame()] : 'No answer is to blame.'],
+  fault: () => ['No order ', isInTime() && 'in time ', 'explains the answers, and in some ', faultPlace(), '. ', isLeftOut('core') ? CORE_LEFT_OUT : core().length > 0 ? ['Besides, ', blame()] : 'No answer is to blame.'],
   broken: () => {
     const {call: id, wanted} = item.broken, reply = call(id).reply.text;
     return [chip(id), NO_VALUE[reply] || ' answered something other than', ' a value of type ', h('code', null, wanted), ' (', reply, ').'];
@@ -409,6 +408,7 @@ function conclusion(answered, values) {
 /** What the order in time rules out. */
 function orderInTime() {
   const {in_time: found} = item;
+  if (isLeftOut('in_time')) return h('p', {id: 'in-time'}, 'Whether any order would explain it without its times is left out: the search takes too many steps.');
   return found && h('p', {id: 'in-time'}, 'Without the order in time ', join([...found.without].map(chip), ' '), ' would explain it. Against it: ',
     join(found.against.map(({earlier, later}) => [chip(later), ' began after ', chip(earlier), ' had been answered']), ', ', ' and '), '.');
 }
@@ -454,35 +454,12 @@ function startItem() {
   }
   path = verdictPath();
   step = path.length;
-  isInTime = timed().length > 0 && path.every(move => overtaken(move).length === 0);
 }
 
 /** The order of the verdict; of a valid case any order. */
 function verdictPath() {
   const found = [], choose = node => moves(node).find(move => move.on) || (!item.walk && moves(node).find(move => move.to !== undefined));
   for (let move = choose(0); move; move = choose(move.to)) found.push(move);
-  return found;
-}
-
-// ---- The order in time: a call that was answered before another began comes before it
-/** Whether a call of a branch is among those before a state. */
-function isBefore({id, part, index}, node) {
-  const {at} = nodes[node];
-  return at ? index <= at[branches().indexOf(part) + 1] : item.walk.steps.slice(0, node).some(made => made.call === id);
-}
-
-/** The calls that were answered before the call of a move began, and that the move leaves for later. */
-function overtaken({from, call: id}) {
-  const {part, time} = call(id), isOver = other => other.time && other.time[1] !== null && other.time[1] < time[0];
-  return time ? item.calls.filter(other => other.part !== part && isOver(other) && !isBefore(other, from)) : [];
-}
-const isLate = move => isInTime && overtaken(move).length > 0;
-const lateness = move => ['began after ', join(overtaken(move).map(({id}) => chip(id)), ', ', ' and '), ' had been answered'];
-
-/** The states that are reached in the order in time. */
-function statesInTime() {
-  const found = new Set([0]);
-  for (const node of found) for (const move of moves(node)) if (move.to !== undefined && !isLate(move)) found.add(move.to);
   return found;
 }
 
@@ -586,7 +563,7 @@ const track = part => h('span', {class: 'track' + ('PX'.includes(part) ? ' all' 
 function orderTitle() {
   if (isOwnPath) return ['An order of your own', button({class: 'tool', 'data-key': 'back', onclick: () => choosePath(verdictPath(), false)}, 'back')];
   if (isLeftOut('walk')) return 'The order that gets furthest is left out: its search takes too many steps';
-  return item.walk ? (isInTime && item.walk.kind === 'furthest' ? 'The order in time that gets furthest' : ORDERS[item.walk.kind]) : 'An order';
+  return item.walk ? (isInTime() && item.walk.kind === 'furthest' ? 'The order in time that gets furthest' : ORDERS[item.walk.kind]) : 'An order';
 }
 
 function stepRow(steps, room) {
@@ -595,27 +572,24 @@ function stepRow(steps, room) {
   const attributes = {class: 'row part-' + (id || '-')[0] + (steps === step ? ' now' : steps > step ? ' after' : ''), 'data-key': 'step' + steps};
   return button({...attributes, 'aria-current': steps === step ? 'step' : null, onclick: () => goTo(steps)},
     h('span', {class: 'number'}, steps || ''), track(id ? id[0] : '-'),
-    id ? h('span', {class: 'text'}, chip(id), ' ', callAndAnswer(call(id)), unmet && h('span', {class: 'badge doubtful'}, 'precondition ' + unmet),
-      isLate(path[steps - 1]) && h('span', {class: 'badge doubtful'}, 'against time')) : h('span', {class: 'soft'}, 'at first'),
+    id ? h('span', {class: 'text'}, chip(id), ' ', callAndAnswer(call(id)), unmet && h('span', {class: 'badge doubtful'}, 'precondition ' + unmet)) : h('span', {class: 'soft'}, 'at first'),
     h('code', {class: 'text soft'}, changedState(before, state, room)));
 }
 
 function nextRow(move, room) {
   const next = call(move.call), state = nodes[nodeAfter(step)].state, what = h('span', {class: 'text'}, chip(move.call), ' ', callAndAnswer(next));
-  if (move.why && isLate(move)) return h('div', {class: 'row no'}, h('span', {class: 'number bad'}, '✗'), what, h('div', {class: 'text'}, lateness(move)));
   if (move.why) {
     const here = hasValue(next) && rule(next) !== 'true' && h('div', {class: 'soft'}, expression(rule(next), valuesOf(next, state)));
     return h('div', {class: 'row no'}, h('span', {class: 'number bad'}, '✗'), what, h('div', {class: 'text'}, h('div', null, reason(move.why, rule(next))), here));
   }
   return button({class: 'row', 'data-key': 'next' + move.call, onclick: () => path[step] === move ? goTo(step + 1) : choosePath([...path.slice(0, step), move])},
-    isLate(move) ? [h('span', {class: 'number doubtful'}, '✗'), what, h('span', {class: 'text doubtful'}, lateness(move))]
-      : [h('span', {class: 'number good'}, '✓'), what, h('code', {class: 'text soft'}, 'state ', changedState(spell(state), spell(nodes[move.to].state), room))]);
+    h('span', {class: 'number good'}, '✓'), what, h('code', {class: 'text soft'}, 'state ', changedState(spell(state), spell(nodes[move.to].state), room)));
 }
 
 function nextTitle(next) {
-  if (next.length === 0) return path.some(isLate) ? h('h3', {class: 'doubtful'}, 'All calls fit, but not in order of time') : h('h3', {class: 'good'}, '✓ All calls fit');
-  if (!next.every(move => move.why || isLate(move))) return h('h3', null, 'What can come next ', next.length > 1 && item.graph && h('small', null, '(choose a call to try another order)'));
-  return h('h3', {class: 'bad'}, next.length === 1 ? 'Stuck: the only next call cannot come here' : 'Stuck: none of the next calls can come here' + (next.some(isLate) ? ' in order of time' : ''));
+  if (next.length === 0) return h('h3', {class: 'good'}, '✓ All calls fit');
+  if (!next.every(move => move.why)) return h('h3', null, 'What can come next ', next.length > 1 && item.graph && h('small', null, '(choose a call to try another order)'));
+  return h('h3', {class: 'bad'}, next.length === 1 ? 'Stuck: the only next call cannot come here' : 'Stuck: none of the next calls can come here');
 }
 
 function showSteps() {
@@ -654,11 +628,11 @@ function layOut() {
   }
   const left = Math.min(...drawn.map(i => x[i])) - gap / 2 - 4, right = Math.max(...drawn.map(i => x[i])) + gap / 2 + 4;
   const top = i => level(i) * 86 + 7, bottom = i => top(i) + (refused[i] ? 44 : 26);
-  return {drawn, label, refused, inTime: statesInTime(), width, x: i => x[i] - left, top, bottom, size: [Math.round(right - left), Math.max(...drawn.map(bottom)) + 8]};
+  return {drawn, label, refused, width, x: i => x[i] - left, top, bottom, size: [Math.round(right - left), Math.max(...drawn.map(bottom)) + 8]};
 }
 
-function graphNode(i, {label, refused, inTime, width, x, top, bottom}) {
-  const kind = !inTime.has(i) ? ' late' : sum(nodes[i].at) === item.calls.length ? ' end' : refused[i] && moves(i).every(move => move.why || isLate(move)) ? ' dead' : '';
+function graphNode(i, {label, refused, width, x, top, bottom}) {
+  const kind = sum(nodes[i].at) === item.calls.length ? ' end' : refused[i] && moves(i).every(move => move.why) ? ' dead' : '';
   const reasons = moves(i).filter(move => move.why).map(move => '\n' + move.call + ' cannot come next: ' + move.why.text).join('');
   return h('g', {class: 'node' + kind, 'data-node': i, onclick: () => reach(i)}, h('title', null, 'state ' + spell(nodes[i].state) + reasons),
     h('rect', {x: x(i) - width / 2, y: top(i), width, height: bottom(i) - top(i), rx: 7}), h('text', {x: x(i), y: top(i) + 13}, label[i]),
@@ -667,7 +641,7 @@ function graphNode(i, {label, refused, inTime, width, x, top, bottom}) {
 
 function graphMove(move, index, {x, top, bottom}) {
   const [x1, y1, x2, y2] = [x(move.from), bottom(move.from), x(move.to), top(move.to)];
-  return h('g', {class: 'move part-' + move.call[0] + (isLate(move) ? ' late' : ''), 'data-move': index}, h('line', {x1, y1, x2, y2}), h('text', {x: x1 * .4 + x2 * .6, y: y1 * .4 + y2 * .6}, move.call));
+  return h('g', {class: 'move part-' + move.call[0], 'data-move': index}, h('line', {x1, y1, x2, y2}), h('text', {x: x1 * .4 + x2 * .6, y: y1 * .4 + y2 * .6}, move.call));
 }
 
 function graphPanel() {
@@ -678,15 +652,13 @@ function graphPanel() {
     edges.map(([index, move]) => graphMove(move, index, places)), places.drawn.map(i => graphNode(i, places)));
   svg.style.setProperty('min-width', Math.min(width, Math.max(width * .72, 300)) + 'px');
   return h('section', {class: 'panel', 'data-wide': width > 500, 'aria-label': 'All orders'},
-    h('h2', null, 'All orders at a glance', h('small', null, orderCount() ? count(orderCount(), 'order') + ' through ' : '', count(nodes.length, 'position') + '. Each box is a state, each line a call. ',
-      places.refused.some(Boolean) && [h('b', {class: 'bad'}, '✗'), ' marks a call that cannot come next.'],
-      item.graph.edges.some(isLate) && ' A dashed line goes against the order in time. ',
-      item.verdict === 'unexplained' && (item.graph.edges.some(isLate) ? ' Without dashed lines no way leads to the end.' : ' No way leads to the end.'))),
+    h('h2', null, 'All orders at a glance', h('small', null, isInTime() ? 'These are the orders in time, through ' : orderCount() ? count(orderCount(), 'order') + ' through ' : '', count(nodes.length, 'position') + '. Each box is a state, each line a call. ',
+      places.refused.some(Boolean) && [h('b', {class: 'bad'}, '✗'), ' marks a call that cannot come next.'], item.verdict === 'unexplained' ? ' No way leads to the end.' : '')),
     h('div', {class: 'graph'}, svg));
 }
 
 // ---- The page
-const HELP = ['A run is a record: which calls were made, and what each answered. The branches ran at the same time, so nothing is known about the order between them; within a branch, calls came from top to bottom.',
+const HELP = ['A run is a record: which calls were made, and what each answered. The branches ran at the same time, so any order between them can be the right one; within a branch, calls came from top to bottom.',
   'The model says what each call answers when calls come one after another. A run is explained if some order of its calls (an interleaving) gives exactly the recorded answers. The state is what the model holds between two calls.',
   'If no order does, the red calls are a core: their answers cannot all be right, but without any one of them the others can. Any of them may be the wrong one. The page then shows the order that gets furthest before no call fits.'];
 const TIMED_HELP = ['A run is a record: which calls were made, what each answered, and when. A call that was answered before another began comes before it in the order in time. Calls whose bars overlap can come in either order.',
@@ -730,7 +702,7 @@ function render() {
     h('div', {class: 'place'}, badge(item), h('span', null, (item.kind === 'run' ? 'Run ' : 'Case ') + item.item + (items.length > 1 ? ' of ' + items.length : '')), h('span', {class: 'mono'}, place(item))),
     h('h1', null, heading()), LEADS[item.verdict] && h('p', {class: 'lead'}, LEADS[item.verdict]()), corePanels(), orderInTime(),
     ...(isWide ? [run, steps, callbackPanel()] : [h('div', {class: 'two'}, columns)]), isWideGraph && graph, modelPanel(),
-    h('details', {class: 'help'}, h('summary', null, 'How to read this page'), (timed().length > 0 ? [...TIMED_HELP, ...HELP.slice(1)] : HELP).map(text => h('p', null, text))),
+    h('details', {class: 'help'}, h('summary', null, 'How to read this page'), (isInTime() ? [...TIMED_HELP, ...HELP.slice(1)] : HELP).map(text => h('p', null, text))),
     h('p', {class: 'help'}, keys(['←', '→'], 'step'), timed().length > 0 && keys(['↑', '↓'], 'from bar to bar'), items.length > 1 && [keys(['j', 'k'], 'next and previous run'), keys(['/'], 'search')])].filter(Boolean));
   update();
   if (graph && !isWideGraph) columns[innerWidth > 860 && columns[0].offsetHeight < columns[1].offsetHeight ? 0 : 1].append(graph), update();
