@@ -11,8 +11,6 @@ mod copies;
 #[cfg(test)]
 mod merges;
 #[cfg(test)]
-mod obstacles;
-#[cfg(test)]
 mod parts;
 #[cfg(test)]
 mod shrunk;
