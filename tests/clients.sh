@@ -23,7 +23,7 @@ pst() {
 has() { grep -q -e "$1" "$room/report"; }
 says() { grep -q -F -e "$1" "$room/errors"; }
 
-# The number of calls of the run that the least failure was shrunk to.
+# The number of calls of the run that the first failure was shrunk to.
 calls() { grep '^to ' "$room/report" | sed 's/(replies.*//' | grep -o '([a-z]*\( [^()]*\)\?)' | grep -v -c '^(\(prefix\|left\|right\|suffix\))$'; }
 
 passes() { [ "$status" = 0 ] && has "^passed $1\$"; }
@@ -48,6 +48,24 @@ racy() {
     ! is_found || break
   done
   check "$command is found" is_found
+}
+
+# Tests that what an installed `pst jitter` starts loads the hooks of its tree: the library for native programs, and those of each language that is there.
+disturbs() {
+  if command -v cc > /dev/null; then
+    pst jitter -- grep pst_jitter /proc/self/maps
+    check "native programs pause" has '/lib/pst/hooks/pst_jitter[.]so$'
+  fi
+  hooks_into python3 -c 'import sys; print(sys.gettrace())' enter_call
+  hooks_into node -p 'fs.promises.readFile.toString()' 'finally(disturb)'
+  hooks_into ruby -e 'p PstJitter' '^PstJitter$'
+}
+
+# A program, the words with which it prints what is hooked, and what it prints then.
+hooks_into() {
+  command -v "$1" > /dev/null || return 0
+  pst jitter --scripts -- "$1" "$2" "$3"
+  check "programs of $1 pause" has "$4"
 }
 
 # Tests both forms of a client: its model, its command, the number of trials of the right form, and further options.

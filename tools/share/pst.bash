@@ -3,7 +3,7 @@ _pst() {
   local word="${COMP_WORDS[COMP_CWORD]}" command="${COMP_WORDS[1]-}" options=""
   COMPREPLY=()
   if [ "$COMP_CWORD" = 1 ]; then
-    COMPREPLY=($(compgen -W "campaign run judge explain convert check generate fmt new help --help --version" -- "$word"))
+    COMPREPLY=($(compgen -W "campaign run judge explain convert check generate fmt new jitter help --help --version" -- "$word"))
     return
   fi
   case $command in
@@ -17,6 +17,7 @@ _pst() {
     list) options="--output --quiet --help" ;;
     fmt) options="--check --quiet --help" ;;
     new) options="--client --server" ;;
+    jitter) options="--seed --pauses --scripts --env --hooks --help" ;;
   esac
   case ${COMP_WORDS[COMP_CWORD - 1]} in
     --color) COMPREPLY=($(compgen -W "auto always never" -- "$word")) && return ;;

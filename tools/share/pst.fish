@@ -1,5 +1,5 @@
 # Completion of pst for fish.
-complete -c pst -n __fish_use_subcommand -f -a "campaign run judge explain convert check generate fmt new help"
+complete -c pst -n __fish_use_subcommand -f -a "campaign run judge explain convert check generate fmt new jitter help"
 complete -c pst -n "__fish_seen_subcommand_from campaign run" -l client -r -d "a command that answers calls"
 complete -c pst -n "__fish_seen_subcommand_from campaign run" -l shared -d "one process has all branches"
 complete -c pst -n "__fish_seen_subcommand_from campaign run" -l branches -x -d "branches that run at once"
@@ -32,3 +32,8 @@ complete -c pst -n "__fish_seen_subcommand_from fmt" -l check -d "name the files
 complete -c pst -n "__fish_seen_subcommand_from judge explain" -l failures -d "leave out what is explained or valid"
 complete -c pst -n "__fish_seen_subcommand_from new" -l client -x -a "python bash go c node"
 complete -c pst -n "__fish_seen_subcommand_from new" -l server -f -d "a client of a server, in python or node"
+complete -c pst -n "__fish_seen_subcommand_from jitter" -l seed -x -d "chooses the pauses"
+complete -c pst -n "__fish_seen_subcommand_from jitter" -l pauses -x -d "the longest pauses in microseconds"
+complete -c pst -n "__fish_seen_subcommand_from jitter" -l scripts -d "no library for native programs"
+complete -c pst -n "__fish_seen_subcommand_from jitter" -l env -d "print the settings"
+complete -c pst -n "__fish_seen_subcommand_from jitter" -l hooks -d "print the folder of the hooks"

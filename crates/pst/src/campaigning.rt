@@ -18,7 +18,7 @@ use crate::{diagnostics, failure_explanations, outputs, page, subcommands};
 use clap::ArgMatches;
 use pst_campaign::{EarlyStop, Signal};
 use pst_cli::{
-    Absence, CampaignNotes, Destinations, KnownSystem, OutputForm, Status, report_campaign,
+    Absence, CampaignEnd, Destinations, KnownSystem, OutputForm, Status, report_campaign,
 };
 use pst_sexpr::Sink;
 use pst_sources::Input;
@@ -47,13 +47,6 @@ struct CampaignOptions<'a> {
     input: Input<'a>,
     /// The width of lines of explanations, in bytes.
     line_width: usize,
-}
-
-impl CampaignOptions<'_> {
-    /// The notes before the first trial, which keep the failures for what is written of them.
-    fn new_notes(&self) -> CampaignNotes {
-        CampaignNotes::new_with_choice_to_keep_failures(self.page.is_some(), self.saver.is_some())
-    }
 }
 
 /// Runs a campaign until `signal` is given, and writes its report once it is complete. If standard error is a terminal, a
@@ -91,60 +84,72 @@ fn run_campaign_with_messages<
         progress,
         ending: EarlyStop::new(options.most, signal),
     };
-    let mut notes = options.new_notes();
-    let status = report_campaign(
+    let (status, end) = report_campaign(
         rt,
         alloc,
         input,
         settings,
         systems,
         &watch,
-        &mut notes,
         form,
         &mut display,
         to,
     );
     let has_messages = !options.is_quiet && !outputs::has_output_failed(to);
-    (
-        status,
-        write_beside_report(rt, settings, options, has_messages, notes),
-    )
+    let beside = write_beside_report(rt, options, has_messages, &end);
+    (status, beside)
 }
 
-/// Writes what is wanted beside the report of a campaign: the page; if `has_messages`, explanations of the least failure
-/// and of the first trial without a case on standard error, and without such a trial the warnings on the model; and the
-/// failures in a folder. The status is `Lost` if the page or a failure cannot be written, and else `Accepted`.
+/// Writes what is wanted beside the report of a campaign: if it began, what it came to; and if `has_messages` and no trial
+/// is without a case, the warnings on the model on standard error. The status is `Lost` if the page or a failure cannot be
+/// written, and else `Accepted`.
 fn write_beside_report<R: Eprint + Files + AllocGlobal>(
     rt: &R,
-    settings: Settings,
     options: CampaignOptions<'_>,
     has_messages: bool,
-    mut notes: CampaignNotes,
-) -> Status
-    requires { AreInRange settings }
-{
+    end: &Option<CampaignEnd>,
+) -> Status {
+    let Input { files, bytes } = options.input;
+    match end {
+        Some(end) => write_end_of_campaign(rt, options, has_messages, end),
+        None => {
+            if has_messages {
+                diagnostics::print_input_warnings_to_stderr(rt, rt.alloc(), files, bytes);
+            }
+            Status::Accepted
+        }
+    }
+}
+
+/// Writes what a campaign came to: the page; if `has_messages`, explanations of the smallest failure and of the first trial
+/// without a case on standard error, and without such a trial the warnings on the model; and the failures in a folder.
+fn write_end_of_campaign<R: Eprint + Files + AllocGlobal>(
+    rt: &R,
+    options: CampaignOptions<'_>,
+    has_messages: bool,
+    end: &CampaignEnd,
+) -> Status {
     let (alloc, width) = (rt.alloc(), options.line_width);
     let Input { files, bytes } = options.input;
     let status = match options.page {
-        Some(name) => page::write_campaign_page(rt, name, options.input, &mut notes),
+        Some(name) => page::write_campaign_page(rt, name, files, end),
         None => Status::Accepted,
     };
     if has_messages {
         failure_explanations::print_campaign_explanations_to_stderr(
             rt,
             alloc,
-            settings,
             options.sample,
             bytes,
-            &mut notes,
+            end,
             width,
         );
-        if notes.first_genfault.is_none() {
+        if end.first_trial_without_case().is_none() {
             diagnostics::print_input_warnings_to_stderr(rt, alloc, files, bytes);
         }
     }
     match options.saver {
-        Some(saver) => status.or_worse(saver.save_noted_failures(rt, &notes, options.is_quiet)),
+        Some(saver) => status.or_worse(saver.save_failures(rt, end, options.is_quiet)),
         None => status,
     }
 }

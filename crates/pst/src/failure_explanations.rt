@@ -1,11 +1,13 @@
-//! Explanations on standard error: why no interleaving explains a driven run or the least failure of a campaign,
+//! Explanations on standard error: why no interleaving explains a driven run or the smallest failure of a campaign,
 //! and why the first trial without a case has none.
+ghost use Rattle.pst_cli.specs.CampaignFailures.{IsFailingRun};
 ghost use Rattle.pst_trial.specs.Settings.{AreInRange};
 
 use crate::systems::sample_calls;
 use pst_case::{Case, Command, History, Reply};
 use pst_cli::{
-    CallOrder, CampaignNotes, KnownSystem, LostTrials, compile_model_and_explain_failed_run,
+    CallOrder, CampaignEnd, KnownSystem, LostTrials, TrialFailure,
+    compile_model_and_explain_failed_run, explain_failure,
 };
 use pst_driver::has_only_value_replies;
 use pst_messages::{explanation_why_trial_has_no_case, model_beginning_after_call};
@@ -53,54 +55,32 @@ fn print_lost_trials<R: Eprint>(rt: &R, lost: &LostTrials) {
     let _ = eprintln!(rt; "{rest}");
 }
 
-/// Writes to standard error why no interleaving explains the least failure of a campaign, if it has a failure; the
-/// failure with the fewest calls, if another one has fewer; and why the first trial without a case has none, if there
-/// is such a trial. `sample` is the system, if it is a sample. Lines of explanations have at most `line_width` bytes. If
-/// an allocation fails or the text cannot be written, the report and the status remain without it.
+/// Writes to standard error why no interleaving explains the smallest failure of a campaign, if it has a failure; why the
+/// first trial without a case has none, if there is such a trial; and how many trials were lost. `sample` is the system, if
+/// it is a sample. Lines of explanations have at most `line_width` bytes. If an allocation fails or the text cannot be
+/// written, the report and the status remain without it.
 pub fn print_campaign_explanations_to_stderr<R: Eprint>(
     rt: &R,
     alloc: Global,
-    settings: Settings,
     sample: Option<KnownSystem>,
     input: &[u8],
-    notes: &mut CampaignNotes,
+    end: &CampaignEnd,
     line_width: usize,
-)
-    requires { AreInRange settings }
-{
-    if let Some((case, history)) = notes.least.take() {
-        let has_failed = has_failed_call(&history);
-        print_least_failure_explanation_with_note(
-            rt,
-            alloc,
-            input,
-            settings.order,
-            case,
-            history,
-            line_width,
-        );
+) {
+    if let Some(failure) = end.smallest_failure() {
+        print_smallest_failure(rt, alloc, input, end, &failure, line_width);
         if let Some(system) = sample
-            && has_failed
+            && has_failed_call(&failure.shrunk.last.history.history)
         {
             let _ = eprint!(rt; "{}", sample_calls(system));
         }
     }
-    if let Some(shorter) = notes.shorter {
-        let calls = if shorter.commands == 1 {
-            "call"
-        } else {
-            "calls"
-        };
-        let _ = eprintln!(rt;
-            "trial {} failed with {} {calls}, fewer than these {}: --save keeps each failing case",
-            shorter.number, shorter.commands, shorter.commands_of_first
-        );
-    }
-    if let Some(number) = notes.first_genfault {
+    if let Some(number) = end.first_trial_without_case() {
+        let settings = *end.plan().settings();
         print_why_trial_has_no_case(rt, alloc, settings, input, number);
     }
-    if let Some(causes) = &notes.lost {
-        for lost in causes {
+    if let Ok(causes) = end.lost_trials(alloc) {
+        for lost in &causes {
             print_lost_trials(rt, lost);
         }
     }
@@ -285,39 +265,53 @@ fn note_if_first_call_is_wrong(
     }
 }
 
-/// Writes why no interleaving that counts by `order` explains the least failure of a campaign, to standard error, and a
-/// note if one applies. The lines of the explanation have at most `line_width` bytes. The model is at the beginning of
-/// `input`. If an allocation fails or a text cannot be written, nothing else is said.
-fn print_least_failure_explanation_with_note<R: Eprint>(
+/// Writes which failure of a campaign is explained.
+fn print_failure_heading<R: Eprint>(rt: &R, end: &CampaignEnd, number: usize) {
+    let count = end.count_failures();
+    if count == 1 {
+        let _ = eprintln!(rt; "the failure of trial {number}:");
+    } else {
+        let _ = eprintln!(rt; "the smallest of {count} failures, found in trial {number}:");
+    }
+}
+
+/// Writes why no interleaving explains the smallest failure of a campaign to standard error, and a note if one applies. The
+/// lines of the explanation have at most `line_width` bytes. The model is at the beginning of `input`. If an allocation fails
+/// or a text cannot be written, nothing else is said.
+fn print_smallest_failure<R: Eprint>(
     rt: &R,
     alloc: Global,
     input: &[u8],
-    order: CallOrder,
-    case: Case,
-    history: History,
+    end: &CampaignEnd,
+    failure: &TrialFailure<'_>,
     line_width: usize,
-) {
-    let in_turn = if has_at_most_one_branch_with_commands(&case)
-        && has_only_value_replies(&history)
-    {
+)
+    requires { IsFailingRun end.now.plan failure.now.shrunk.now.last }
+{
+    let last = &failure.shrunk.last;
+    let (case, history) = (&last.case, &last.history.history);
+    let in_turn = if has_at_most_one_branch_with_commands(case) && has_only_value_replies(history) {
         IN_TURN_NOTE
     } else {
         ""
     };
-    let note = note_if_first_call_is_wrong(alloc, input, &case, &history);
-    print_explanation_if_run_failed(
-        rt,
-        alloc,
-        "the least failure:",
-        input,
-        order,
-        case,
-        history,
-        line_width,
-    );
+    let note = note_if_first_call_is_wrong(alloc, input, case, history);
+    if let Ok(text) = explain_failure(alloc, end, failure, line_width)
+        && let Ok(text) = std::str::from_utf8(text.as_slice())
+    {
+        print_failure_heading(rt, end, failure.trial);
+        let _ = eprint!(rt; "{text}");
+    }
     if let Ok(note) = note {
         let note = if note.is_empty() { in_turn } else { note };
         let _ = eprint!(rt; "{note}");
+    }
+}
+
+/// Writes a heading and an explanation to standard error.
+fn print_explanation<R: Eprint>(rt: &R, heading: &str, text: &[u8]) {
+    if let Ok(text) = std::str::from_utf8(text) {
+        let _ = eprint!(rt; "{heading}\n{text}");
     }
 }
 
@@ -337,10 +331,7 @@ pub fn print_explanation_if_run_failed<R: Eprint>(
     let explanation = compile_model_and_explain_failed_run(
         alloc, input, order, case, history, line_width,
     );
-    let Ok(Some(text)) = explanation else {
-        return;
-    };
-    if let Ok(text) = std::str::from_utf8(text.as_slice()) {
-        let _ = eprint!(rt; "{heading}\n{text}");
+    if let Ok(Some(text)) = explanation {
+        print_explanation(rt, heading, text.as_slice());
     }
 }

@@ -17,7 +17,8 @@ Examples:
   pst judge cache.model recorded.runs             judges runs that were recorded elsewhere
 
 `pst help verdicts` explains verdicts, reports, refusals and exit statuses.
-The launcher also has `pst new NAME`, which writes a first model and client, and `pst install [PREFIX]`.";
+The launcher also has `pst new NAME`, which writes a first model and client, `pst jitter -- COMMAND`, which starts a server with
+random pauses, and `pst install [PREFIX]`.";
 
 /// After the help of `check`.
 pub const CHECK: &str = "\
@@ -86,8 +87,8 @@ Examples:
   pst campaign racy counter.model --seed 1
   pst campaign --client ./client.py cache.model --save failures
 
-The report is on standard output; `pst help verdicts` explains its lines. Standard error then explains the failure that the
-report names as `least`, and the first trial without a case; -q leaves this out.
+The report is on standard output; `pst help verdicts` explains its lines. Standard error then explains the failure with
+the fewest calls, and the first trial without a case; -q leaves this out.
 
 A campaign that ends early, by --max-failures, --stop-file or Ctrl-C, finishes the trials that run, and its report counts the
 others as undrawn.

@@ -3,8 +3,8 @@
 use crate::input::STANDARD_INPUT;
 use crate::outputs::print_why_file_was_not_written;
 use clap::{Arg, ArgMatches};
-use pst_cli::{CampaignNotes, Status, campaign_failures_html_page};
-use pst_sources::Input;
+use pst_cli::{CampaignEnd, Status, campaign_failures_html_page};
+use pst_sources::SourceFile;
 use std::alloc::Global;
 use std::fs::{File, OpenOptions, metadata, remove_file};
 use std::io::{self, ErrorKind};
@@ -63,24 +63,18 @@ pub fn refuse_unwritable_html_page<R: Files + Eprint + AllocGlobal>(
     }
 }
 
-/// Writes the file `name` of the page of a campaign on `input`, if it began, and takes its failures from the notes. The status is
-/// `Lost` if the file cannot be written, and else `Accepted`.
+/// Writes the file `name` of the page of a campaign on the input of `files`. The status is `Lost` if the file cannot be
+/// written, and else `Accepted`.
 pub fn write_campaign_page<R: Files + Eprint + AllocGlobal>(
     rt: &R,
     name: &str,
-    input: Input<'_>,
-    notes: &mut CampaignNotes,
+    files: &[SourceFile<'_>],
+    end: &CampaignEnd,
 ) -> Status {
     let alloc = rt.alloc();
-    let Some(failures) = notes.explained.take() else {
-        return Status::Accepted;
-    };
-    let Ok(page) = campaign_failures_html_page(alloc, input.files, input.bytes, failures) else {
+    let Ok(page) = campaign_failures_html_page(alloc, files, end) else {
         let _ = eprintln!(rt; "pst: cannot write {name}: memory allocation failed");
         return Status::Lost;
-    };
-    let Some(page) = page else {
-        return Status::Accepted;
     };
     match std::fs::write(rt, name, page.as_slice()) {
         Ok(()) => Status::Accepted,

@@ -5,7 +5,7 @@ ghost use Rattle.pst_cli.specs.declared.answer.Status.TheVariants.{Lost};
 use crate::input::STANDARD_INPUT;
 use crate::outputs::print_file_error_to_stderr;
 use clap::ArgMatches;
-use pst_cli::{CampaignNotes, Status};
+use pst_cli::{CampaignEnd, Status};
 use pst_clients::ClientFolder;
 use pst_report::NumberedFailure;
 use std::alloc::{AllocError, Global};
@@ -170,25 +170,35 @@ impl<'a> FailureSaver<'a> {
         std::fs::write(rt, file.as_str(), text.as_slice())
     }
 
-    /// Saves the noted failures, and says on standard error how many there are, unless it is to be quiet. The status is
-    /// `Lost` if one cannot be written, and else `Accepted`.
-    pub fn save_noted_failures<R: Files + Eprint + AllocGlobal>(
+    /// Writes the files of the failures of a campaign, each shrunk case once, and returns how many there are.
+    fn write_failures<R: Files + AllocGlobal>(
         &self,
         rt: &R,
-        notes: &CampaignNotes,
+        end: &CampaignEnd,
+    ) -> io::Result<usize> {
+        let failures = end.distinct_failures(rt.alloc())?;
+        for numbered in &failures {
+            self.write(rt, numbered)?;
+        }
+        Ok(failures.len())
+    }
+
+    /// Saves the failures of a campaign, and says on standard error how many there are, unless it is to be quiet. The status
+    /// is `Lost` if one cannot be written, and else `Accepted`.
+    pub fn save_failures<R: Files + Eprint + AllocGlobal>(
+        &self,
+        rt: &R,
+        end: &CampaignEnd,
         is_quiet: bool,
     ) -> Status {
-        let Some(failures) = &notes.saved else {
-            return Status::Accepted;
-        };
         let folder = self.folder;
-        for numbered in failures {
-            if let Err(error) = self.write(rt, numbered) {
+        let count = match self.write_failures(rt, end) {
+            Ok(count) => count,
+            Err(error) => {
                 print_file_error_to_stderr(rt, rt.alloc(), "write a failure to", folder, &error);
                 return Status::Lost;
             }
-        }
-        let count = failures.len();
+        };
         if count > 0 && !is_quiet {
             let failures = if count == 1 { "failure" } else { "failures" };
             let _ = eprintln!(rt; "pst: saved {count} {failures} in {folder}");

@@ -1,11 +1,16 @@
 pub mod Campaigning
 pub mod Driving
+pub mod Equal
+pub mod FailingRuns
+pub mod Fewest
 pub mod Generated
 pub mod Graphs
 pub mod JudgedRuns
 pub mod Keeping
 pub mod KeepingOn
+pub mod Losing
 pub mod OneOutput
+pub mod Paging
 pub mod Printing
 pub mod Reading
 pub mod Repeating

@@ -5,17 +5,18 @@ use Rattle.std.specs.Prelude.{slice_get, not, if◌then◌else◌, ◌&&◌, ◌
 use Rattle.std.specs.List.{list_any}
 use Rattle.pst_campaign.specs.Entries.{MayGive}
 use Rattle.pst_campaign.proofs.Given.{all_given_to_the_end}
-use Rattle.pst_cli.specs.CampaignOutput.{Gives, plan_of, status_after, IsOutputFor, reported, not_started, IsCampaignOutput, accepted, refused}
-use Rattle.pst_cli.specs.EarlyOutput.{IsEarlyOutputFor, ended, not_begun, IsEarlyOutput, loaded, not_loaded}
+use Rattle.pst_cli.specs.CampaignOutput.{Gives, plan_of, status_after, reported, not_started, IsCampaignOutput, accepted, refused}
+use Rattle.pst_cli.specs.CampaignEnd.{IsEarlyOutput, ended, not_begun, not_loaded, unbegun}
 use Rattle.pst_cli.specs.Sending.{Prints}
+use Rattle.pst_cli.specs.declared.answer.OutputForm.TheVariants as form
 use Rattle.pst_cli.specs.declared.answer.Status.{Status}
 use Rattle.pst_judge.specs.declared.judgement.Verdict.{Verdict}
 use Rattle.pst_judge.specs.declared.judgement.Verdict.TheVariants as verdict
 use Rattle.pst_ledger.specs.declared.entry.Entry.{Entry}
 use Rattle.pst_ledger.specs.declared.entry.Entry.TheVariants as entry
-use Rattle.pst_model.specs.declared.model.Source.{Source}
 use Rattle.pst_report.specs.Kinds.{kind_of_verdict, kind_of_outcome, own_failure, is_same}
 use Rattle.pst_report.specs.Status.{is_missing, is_failed, is_lost, is_undrawn, did_not_pass, campaign_status, ended_status}
+use Rattle.pst_report.specs.Text.{report_text}
 use Rattle.pst_report.specs.declared.status.EntryKind.TheVariants as kind
 use Rattle.pst_report.specs.declared.status.CampaignStatus.TheVariants.{Passed, Failed, Incomplete}
 use Rattle.pst_system.specs.Kept.{Answers, Fails, ResetFails}
@@ -80,20 +81,17 @@ module _ {S : Type 0} (A : S → Answers) (F : S → Fails) (R : S → ResetFail
   abbrev Give : Gives S
   Give = λ s. MayGive (A s) (F s) (R s)
 
-  whole_output : (m : Source) (text : List ℕ) (status : Status)
-      → IsEarlyOutputFor ⊥ Give settings systems m text status → IsOutputFor Give settings systems m text status
-  whole_output m text status (ended workers entries count given is_text is_status) =
-      let all = all_given_to_the_end (λ s. Give s (plan_of m settings)) systems entries given in
-      let same = same_status entries (λ k e at.
-      let one = all k e at in given_is_drawn (A one.1) (F one.1) (R one.1) (plan_of m settings) k e one.3) in
-      reported workers entries count all is_text (is_status ∙ ap status_after same)
-  whole_output m text status (not_begun fault deserved reason is_text is_status) =
-      not_started fault deserved reason is_text is_status
-
   pub whole : (input text : List ℕ) (status : Status)
-      → IsEarlyOutput ⊥ Give settings systems input text status → IsCampaignOutput Give settings systems input text status
-  whole input text status (loaded m trees holds output) = accepted m trees holds (whole_output m text status output)
-  whole input text status (not_loaded refusal is is_text is_status) = refused refusal is is_text is_status
+      → IsEarlyOutput form.Text ⊥ Give settings systems input text status → IsCampaignOutput Give settings systems input text status
+  whole input text status (ended c is output) =
+      let all = all_given_to_the_end (λ s. Give s (plan_of is.model settings)) systems c.entries is.ended.given in
+      let same = same_status c.entries (λ k e at.
+      let one = all k e at in given_is_drawn (A one.1) (F one.1) (R one.1) (plan_of is.model settings) k e one.3) in
+      accepted is.model is.trees is.holds (reported is.ended.workers c.entries is.ended.count all
+      (output.report ∙ ap (λ p. report_text p c.entries) is.ended.plan) (output.ending ∙ ap status_after same))
+  whole input text status (unbegun (not_loaded refusal is is_text is_status)) = refused refusal is is_text is_status
+  whole input text status (unbegun (not_begun m trees holds fault deserved reason as_text is_text is_status)) =
+      accepted m trees holds (not_started fault deserved reason is_text is_status)
 
 printed_so : (P Q : List ℕ → Status → Type 0) → ((text : List ℕ) (status : Status) → P text status → Q text status)
     → (text : List ℕ) (status : Status) (Z : Type 0) → P text status ⊎ Z → Q text status ⊎ Z

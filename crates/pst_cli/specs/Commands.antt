@@ -1,8 +1,8 @@
 -- Which output is meant by the options of a command, and what is returned beside it.
 use Rattle.std.specs.Prelude.{ℕ, zero, suc, Bool, true, false, List, Option, Some, None, All}
 use Rattle.pst_cli.specs.Answering.{Unsaid}
+use Rattle.pst_cli.specs.CampaignEnd.{IsEarlyOutput}
 use Rattle.pst_cli.specs.CampaignOutput.{Gives}
-use Rattle.pst_cli.specs.EarlyOutput.{IsEarlyOutput}
 use Rattle.pst_cli.specs.JsonOutput.{IsCheckJson, IsJudgeJson}
 use Rattle.pst_cli.specs.KeepingOn.{HoldsAnswers, IsShownKeepingOn}
 use Rattle.pst_cli.specs.Kept.{HoldsJudged}
@@ -80,7 +80,6 @@ IsDriveAnswer options = drive_answer options.order options.form options.repeats
 
 -- ---- `pst campaign`
 
--- the report; of its object nothing is said
+-- the report, or the object of the report
 abbrev pub IsCampaignAnswer : {S : Type 0} → OutputForm → (may_end : Type 0) → Gives S → Settings → (systems : List S) → OutputOf
-IsCampaignAnswer form.Text may_end may_give settings systems = IsEarlyOutput may_end may_give settings systems
-IsCampaignAnswer form.Json may_end may_give settings systems = λ input. Unsaid
+IsCampaignAnswer form may_end may_give settings systems = IsEarlyOutput form may_end may_give settings systems

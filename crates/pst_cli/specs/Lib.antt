@@ -1,11 +1,13 @@
 -- what the public contracts cite
 pub mod Absent
 pub mod Answering
+pub mod CampaignEnd
+pub mod CampaignFailures
 pub mod CampaignOutput
+pub mod CampaignView
 pub mod ChosenItem
 pub mod Commands
 pub mod ConvertOutput
-pub mod EarlyOutput
 pub mod ExplainOutput
 pub mod GenerateOutput
 pub mod GraphOutput
@@ -27,6 +29,9 @@ pub mod Answers
 pub mod Generating
 pub mod ItemReports
 pub mod Kept
+pub mod Losses
 pub mod Outputs
+pub mod Page
 pub mod Rows
+pub mod Smaller
 pub mod Streaming

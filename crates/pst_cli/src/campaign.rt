@@ -1,14 +1,15 @@
 //! `pst campaign`.
-ghost use Rattle.std.specs.Prelude.{◌≡◌, false, IfOk, length, string_bytes};
+ghost use Rattle.std.specs.Prelude.{◌≡◌, false, IfErr, IfOk, IfSome, MatchOption, MatchResult, None, Some, length, string_bytes};
 ghost use Rattle.std.specs.Arc.{arc_value};
 ghost use Rattle.pst_campaign.specs.Entries.{MayGive};
 ghost use Rattle.pst_cli.specs.Answering.{Delivers, Reaches, Stands, memory_of};
-ghost use Rattle.pst_cli.specs.Answers.{Answers, IsCampaignAnswerFor, IsRefusedCampaign, IsReportOf};
+ghost use Rattle.pst_cli.specs.Answers.{Answers, IsRefusedCampaign};
+ghost use Rattle.pst_cli.specs.CampaignEnd.{IsEndFor, IsEndOf, IsNotBegun, IsReportObject, IsReportOf};
 ghost use Rattle.pst_cli.specs.CampaignOutput as spec;
 ghost use Rattle.pst_cli.specs.CampaignOutput.{IsCampaignOutput, plan_of};
 ghost use Rattle.pst_cli.specs.Commands.{IsCampaignAnswer};
 ghost use Rattle.pst_cli.specs.Sending.{Prints};
-ghost use Rattle.pst_report.specs.InOrder.{AreOf};
+ghost use Rattle.pst_campaign.specs.Working.{IsCampaignFault};
 ghost use Rattle.pst_report.specs.Text.{report_text};
 ghost use Rattle.pst_trial.specs.Settings.{AreInRange};
 
@@ -16,10 +17,9 @@ use crate::answer::{
     Answer, Destinations, MEMORY_LINE, OutputForm, Status, deliver, memory_text, send,
 };
 use crate::attendant::Attendant;
+use crate::campaign_end::CampaignEnd;
 use crate::judge::refused_model_answer;
-use crate::notes::CampaignNotes;
 use pst_campaign::{CampaignFault, NeverStops, StopCondition, Watch, campaign_until};
-use pst_ledger::Closed;
 use pst_model::Typed;
 use pst_rejudge::json_object_line;
 use pst_report::{
@@ -28,7 +28,7 @@ use pst_report::{
 };
 use pst_sexpr::{Out, Sink};
 use pst_system::{BoxedSystem, System};
-use pst_trial::{Plan, Record, Settings};
+use pst_trial::{Plan, Settings};
 use pst_typing::{ModelFile, load};
 use std::alloc::{AllocError, Global};
 use std::sync::{Arc, Wait};
@@ -48,7 +48,7 @@ fn refused_campaign_answer(
     form: OutputForm,
     fault: CampaignFault,
 ) -> Result<Answer, AllocError>
-    ensures { IfOk result (IsRefusedCampaign fault) }
+    ensures { IfOk result (IsRefusedCampaign form fault) }
 {
     if form == OutputForm::Json || fault == CampaignFault::NoMemory {
         return Err(AllocError);
@@ -72,124 +72,128 @@ fn exit_status_after_campaign(ended: CampaignStatus) -> Status
 }
 
 /// The report of a campaign.
-fn campaign_lines(
-    alloc: Global,
-    plan: &Plan,
-    closed: &Closed<Record>,
-) -> Result<Vec<u8>, AllocError>
-    requires trials { length closed.now ≡ plan.now.settings.trials }
-    requires records { AreOf plan.now 0 closed.now }
-    ensures { IfOk result (λ text. text.items ≡ report_text plan.now closed.now) }
+fn campaign_lines(alloc: Global, end: &CampaignEnd) -> Result<Vec<u8>, AllocError>
+    ensures { IfOk result (λ text. text.items ≡ report_text end.now.plan end.now.entries) }
 {
     let mut out = Out::new(Vec::new(alloc));
-    match report(alloc, plan, closed, &mut out) {
+    match report(alloc, end.plan(), end.closed(), &mut out) {
         Ok(()) => Ok(out.into_inner()),
         Err(_) => Err(AllocError),
     }
 }
 
 /// The object of the report of a campaign, on its line.
-fn campaign_object(
-    alloc: Global,
-    plan: &Plan,
-    closed: &Closed<Record>,
-) -> Result<Vec<u8>, AllocError>
-    requires { AreOf plan.now 0 closed.now }
+fn campaign_object(alloc: Global, end: &CampaignEnd) -> Result<Vec<u8>, AllocError>
+    ensures { IfOk result (λ text. IsReportObject end.now text.items) }
 {
+    let (plan, closed) = (end.plan(), end.closed());
     let status = status_of_stoppable_campaign(closed);
     let mut fields = campaign_report_fields_before_losses(alloc, plan, closed, status)?;
-    add_lost_trials_and_first_failure(alloc, &mut fields, plan, closed.entries())?;
+    let mut more = Vec::new(alloc);
+    add_lost_trials_and_first_failure(alloc, &mut more, plan, end.entries())?;
+    fields.append(&mut more)?;
     json_object_line(alloc, fields.as_slice())
 }
 
 /// The report of a campaign in a form.
-fn report_answer(
-    alloc: Global,
-    form: OutputForm,
-    plan: &Plan,
-    closed: &Closed<Record>,
-) -> Result<Answer, AllocError>
-    requires trials { length closed.now ≡ plan.now.settings.trials }
-    requires records { AreOf plan.now 0 closed.now }
-    ensures { IfOk result (Answers (IsReportOf form plan.now closed.now)) }
+fn report_answer(alloc: Global, form: OutputForm, end: &CampaignEnd) -> Result<Answer, AllocError>
+    ensures { IfOk result (Answers (IsReportOf form end.now)) }
 {
     let text = match form {
-        OutputForm::Text => campaign_lines(alloc, plan, closed)?,
-        OutputForm::Json => campaign_object(alloc, plan, closed)?,
+        OutputForm::Text => campaign_lines(alloc, end)?,
+        OutputForm::Json => campaign_object(alloc, end)?,
     };
     Ok(Answer {
         text,
-        status: exit_status_after_campaign(status_of_stoppable_campaign(closed)),
+        status: exit_status_after_campaign(status_of_stoppable_campaign(end.closed())),
         refuses: false,
     })
 }
 
-/// The plan for a model and settings.
+/// The plan for a model and settings, twice.
 fn plan_of_model_and_settings(
     alloc: Global,
     typed: Typed,
     settings: Settings,
-) -> Result<Arc<Plan>, AllocError>
+) -> Result<(Arc<Plan>, Arc<Plan>), AllocError>
     requires { AreInRange settings }
-    ensures { IfOk result (λ plan. arc_value plan ≡ plan_of typed settings) }
+    ensures { IfOk result (λ plans. (arc_value plans.0 ≡ plan_of typed settings) × (arc_value plans.1 ≡ plan_of typed settings)) }
 {
     match Plan::new(alloc, typed, settings) {
-        Ok(plan) => Ok(Arc::new(alloc, plan)?),
+        Ok(plan) => {
+            let plan = Arc::new(alloc, plan)?;
+            Ok((plan.clone()?, plan))
+        }
         Err((_, refused)) => Err(refused),
     }
 }
 
-/// Runs the trials of a model, and returns the report, or the line that says why the campaign did not start. Adds the
-/// records to `notes`.
-fn model_campaign_answer<K: StopCondition + Sync, R: Threads + Wait + Sync>(
+/// Runs the trials of a model, and returns what they came to, or the line that says why the campaign did not start.
+fn run_trials_of_model<K: StopCondition + Sync, R: Threads + Wait + Sync>(
     rt: &R,
     alloc: Global,
     typed: Typed,
     settings: Settings,
     systems: Vec<BoxedSystem>,
     watch: &K,
-    notes: &mut CampaignNotes,
     form: OutputForm,
-) -> Result<Answer, AllocError>
+) -> Result<CampaignEnd, Result<Answer, AllocError>>
     requires { AreInRange settings }
-    ensures { IfOk result (Answers (IsCampaignAnswerFor form (K.may_end watch.now)
-        (λ s. MayGive ((System-box s).answers s.value) ((System-box s).fails s.value)
-        ((System-box s).reset_fails s.value))
-        settings systems.items typed)) }
+    ensures end { IfOk result (IsEndFor (K.may_end watch.now) (λ s. MayGive ((System-box s).answers s.value)
+        ((System-box s).fails s.value) ((System-box s).reset_fails s.value)) settings systems.items typed) }
+    ensures refusal { IfErr result (λ refusal. IfOk refusal (λ a. (fault : CampaignFault)
+        × IsCampaignFault (length systems.items) fault × IsRefusedCampaign form fault a)) }
 {
-    let plan = plan_of_model_and_settings(alloc, typed, settings)?;
-    match campaign_until(rt, alloc, plan.clone()?, systems, watch) {
-        Ok(closed) => {
-            notes.add_trial_results(alloc, &plan, &closed)?;
-            report_answer(alloc, form, &plan, &closed)
-        }
-        Err(fault) => refused_campaign_answer(alloc, form, fault),
+    let (plan, own) = match plan_of_model_and_settings(alloc, typed, settings) {
+        Ok(plans) => plans,
+        Err(AllocError) => return Err(Err(AllocError)),
+    };
+    match campaign_until(rt, alloc, plan, systems, watch) {
+        Ok(closed) => Ok(CampaignEnd::new(own, closed)),
+        Err(fault) => Err(refused_campaign_answer(alloc, form, fault)),
     }
 }
 
-/// The report of the campaign on the model at the start of the input, or the first refusal.
-fn campaign_answer<K: StopCondition + Sync, R: Threads + Wait + Sync>(
+/// Runs the trials of the model at the start of the input, and returns what they came to, or the answer if no trial began:
+/// the first refusal, or why the campaign did not start.
+fn run_trials_of_input<K: StopCondition + Sync, R: Threads + Wait + Sync>(
     rt: &R,
     alloc: Global,
     input: &[u8],
     settings: Settings,
     systems: Vec<BoxedSystem>,
     watch: &K,
-    notes: &mut CampaignNotes,
     form: OutputForm,
-) -> Result<Answer, AllocError>
+) -> Result<CampaignEnd, Result<Answer, AllocError>>
     requires { AreInRange settings }
-    ensures { IfOk result (Answers (IsCampaignAnswer form (K.may_end watch.now)
-        (λ s. MayGive ((System-box s).answers s.value) ((System-box s).fails s.value)
-        ((System-box s).reset_fails s.value))
-        settings systems.items input.now)) }
+    ensures end { IfOk result (IsEndOf (K.may_end watch.now) (λ s. MayGive ((System-box s).answers s.value)
+        ((System-box s).fails s.value) ((System-box s).reset_fails s.value)) settings systems.items input.now) }
+    ensures refusal { IfErr result (λ refusal. IfOk refusal
+        (Answers (IsNotBegun form systems.items input.now))) }
 {
-    match load(alloc, input)? {
-        Ok(file) => {
+    match load(alloc, input) {
+        Ok(Ok(file)) => {
             let ModelFile { typed, trees: _ } = file;
-            model_campaign_answer(rt, alloc, typed, settings, systems, watch, notes, form)
+            run_trials_of_model(rt, alloc, typed, settings, systems, watch, form)
         }
-        Err(refusal) => refused_model_answer(alloc, form, &refusal),
+        Ok(Err(refusal)) => Err(refused_model_answer(alloc, form, &refusal)),
+        Err(AllocError) => Err(Err(AllocError)),
+    }
+}
+
+/// The answer to what came of a campaign, with its end if a trial began.
+fn answer_and_end(
+    alloc: Global,
+    form: OutputForm,
+    ended: Result<CampaignEnd, Result<Answer, AllocError>>,
+) -> (Result<Answer, AllocError>, Option<CampaignEnd>)
+    ensures end { MatchResult ended (λ end. result.1 ≡ Some end) (λ _. result.1 ≡ None) }
+    ensures report { IfOk ended (λ end. IfOk result.0 (Answers (IsReportOf form end))) }
+    ensures refusal { IfErr ended (λ refusal. result.0 ≡ refusal) }
+{
+    match ended {
+        Ok(end) => (report_answer(alloc, form, &end), Some(end)),
+        Err(refusal) => (refusal, None),
     }
 }
 
@@ -218,19 +222,17 @@ pub fn campaign_text<W: Sink, K: Watch + Sync, R: Threads + Wait + Sync>(
         ((System-box s).reset_fails s.value)) settings systems.items input.now)
         (W.taken sink.old) (W.taken sink.new) (W.broken sink.new) result }
 {
-    let mut notes = CampaignNotes::new();
     let watch = NeverStops { watch };
     let form = OutputForm::Text;
-    let answer = campaign_answer(
-        rt, alloc, input, settings, systems, &watch, &mut notes, form,
-    );
+    let ended = run_trials_of_input(rt, alloc, input, settings, systems, &watch, form);
+    let (answer, _end) = answer_and_end(alloc, form, ended);
     send(&answer, MEMORY_LINE, sink)
 }
 
-/// Does what [`campaign_text`] does until `watch` says that the campaign is over, and notes what is wanted beside the
-/// report. If the campaign ends early, the status is `Failed` if a trial did not pass and none is lost, and else `Lost`.
-/// As JSON, writes one object: the report, or the refusal of the input, or that an allocation failed, also if the
-/// campaign is refused for the number of its systems. If an allocation fails, notes may be missing.
+/// Does what [`campaign_text`] does until `watch` says that the campaign is over, and returns beside the status what the
+/// trials came to, if one could begin: what is printed then is its report. If the campaign ends early, the status is
+/// `Failed` if a trial did not pass and none is lost, and else `Lost`. As JSON, writes one object: the report, or the
+/// refusal of the input, or that an allocation failed, also if the campaign is refused for the number of its systems.
 pub fn report_campaign<
     F: Sink,
     W: Sink,
@@ -244,19 +246,26 @@ pub fn report_campaign<
     settings: Settings,
     systems: Vec<BoxedSystem>,
     watch: &K,
-    notes: &mut CampaignNotes,
     form: OutputForm,
     attendant: &mut A,
     to: &mut Destinations<F, W>,
-) -> Status
+) -> (Status, Option<CampaignEnd>)
     requires ranges { AreInRange settings }
     requires stands { Stands F.broken W.broken to.old }
     ensures prints { Reaches (memory_of form)
         (IsCampaignAnswer form (K.may_end watch.now) (λ s. MayGive ((System-box s).answers s.value)
         ((System-box s).fails s.value) ((System-box s).reset_fails s.value)) settings systems.items input.now)
-        (Delivers F.taken F.broken W.taken W.broken to.old to.new result) }
+        (Delivers F.taken F.broken W.taken W.broken to.old to.new result.0) }
+    ensures same { IfSome result.1 (IsEndOf (K.may_end watch.now) (λ s. MayGive ((System-box s).answers s.value)
+        ((System-box s).fails s.value) ((System-box s).reset_fails s.value)) settings systems.items input.now) }
+    ensures shown { MatchOption result.1
+        (Reaches (memory_of form) (IsNotBegun form systems.items input.now)
+        (Delivers F.taken F.broken W.taken W.broken to.old to.new result.0))
+        (λ end. Reaches (memory_of form) (IsReportOf form end)
+        (Delivers F.taken F.broken W.taken W.broken to.old to.new result.0)) }
 {
-    let answer = campaign_answer(rt, alloc, input, settings, systems, watch, notes, form);
+    let ended = run_trials_of_input(rt, alloc, input, settings, systems, watch, form);
+    let (answer, end) = answer_and_end(alloc, form, ended);
     attendant.before_output();
-    deliver(&answer, memory_text(form), to)
+    (deliver(&answer, memory_text(form), to), end)
 }

@@ -1,12 +1,16 @@
 //! Explains a driven run.
 ghost use Rattle.std.specs.Prelude.{◌≡◌, IfOk, IfSome};
+ghost use Rattle.pst_cli.specs.CampaignFailures.{IsFailingRun};
 ghost use Rattle.pst_judge.specs.Judgement.{IsJudgementBy};
 ghost use Rattle.pst_rejudge.specs.Judging.{MayBeJudged};
 
+use crate::campaign_end::CampaignEnd;
+use crate::failing_run::{TrialFailure, recorded_judgement};
 use crate::input::compile_model_of_input;
 use crate::judge::is_explained_or_valid;
 use pst_case::{Case, CaseFaultKind, History, Run, Shaped, shape};
 use pst_compile::Compiled;
+use pst_eval::Plain;
 use pst_explain::{explain_item, explanation_text_without_heading};
 use pst_judge::{CallOrder, Judge, Judged};
 use pst_model::Typed;
@@ -27,7 +31,7 @@ fn run_if_history_matches_case(typed: &Typed, shaped: Shaped, history: History) 
 }
 
 /// The run of a case with its history, if it is a run of the model.
-pub(crate) fn run_if_case_and_history_fit_model(
+fn run_if_case_and_history_fit_model(
     alloc: Global,
     typed: &Typed,
     case: Case,
@@ -111,4 +115,39 @@ pub fn compile_model_and_explain_failed_run(
     let callbacks = &file.compiled;
     let judge = Judge { callbacks, order };
     judge_history_and_explain_if_failed(alloc, &judge, case, history, width)
+}
+
+/// Explains a failing run of a case that a trial was shrunk to, in lines of at most `width` bytes.
+fn failing_run_text<'a>(
+    alloc: Global,
+    order: CallOrder,
+    typed: &'a Typed,
+    run: &'a Run,
+    judged: &'a Judged,
+    width: usize,
+) -> Result<Vec<u8>, AllocError>
+    requires may_be { MayBeJudged typed.now run.now }
+    requires judged { IsJudgementBy order typed.now run.now judged.now }
+{
+    let callbacks = Plain::new(typed);
+    let explanation = explain_item(&callbacks, order, alloc, typed, run, judged, 1, None)?;
+    let text = explanation_text_without_heading(alloc, &explanation, width);
+    drop(explanation);
+    text
+}
+
+/// Explains why no interleaving explains a failure of a campaign, in lines of at most `width` bytes. Judges nothing: the
+/// record of the trial has the verdict.
+pub fn explain_failure(
+    alloc: Global,
+    end: &CampaignEnd,
+    failure: &TrialFailure<'_>,
+    width: usize,
+) -> Result<Vec<u8>, AllocError>
+    requires { IsFailingRun end.now.plan failure.now.shrunk.now.last }
+{
+    let plan = end.plan();
+    let order = plan.settings().order;
+    let (run, judged) = recorded_judgement(alloc, plan, &failure.shrunk.last)?;
+    failing_run_text(alloc, order, plan.typed(), &run, &judged, width)
 }

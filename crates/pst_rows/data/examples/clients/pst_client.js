@@ -47,14 +47,36 @@ function serve(makeSystem) {
   answerBranches(process.env.PST_PIPES, Number(process.env.PST_BRANCHES), makeSystem);
 }
 
-// Runs a campaign of two branches on systems of this process, and rejects with the smallest run that the model cannot explain, if there is any.
-// `makeSystem` makes an object whose functions have the names of the operations. `options` are words of `pst campaign`, as in ["--seed", "7"].
+// Options by their names, of words as ["--seed", "7"] or ["--seed=7"], or of an object as { maxFailures: 1 }. Of two with one name the last counts.
+function optionsOf(given) {
+  const words = Array.isArray(given) ? given : Object.entries(given).map(([name, value]) => `--${name}=${value}`);
+  const options = {};
+  let name;
+  for (const word of words) {
+    if (!word.startsWith("-")) {
+      options[name] = [word];
+      continue;
+    }
+    const [start, ...value] = word.split(/=(.*)/s, 2);
+    name = start.replace(/[A-Z]/g, "-$&").toLowerCase().replaceAll("_", "-");
+    options[name] = value;
+  }
+  return options;
+}
+
+const numbersTo = (last) => Array.from({ length: Number(last) }, (_, before) => before + 1);
+
+// Runs a campaign on systems of this process, and rejects with the smallest run that the model cannot explain, if there is any.
+// `makeSystem` makes an object whose functions have the names of the operations. `options` are those of `pst campaign`, as in { trials: 20, maxFailures: 1 }.
 // The variable PST names the program, if it is not `pst` on the path.
-function check(model, makeSystem, options = []) {
+function check(model, makeSystem, options = {}) {
+  const all = { "--workers": ["1"], "--branches": ["2"], ...optionsOf(options) };
+  const [workers, branches] = [numbersTo(all["--workers"]), numbersTo(all["--branches"])];
   const folder = fs.mkdtempSync(path.join(os.tmpdir(), "pst-"));
-  execFileSync("mkfifo", ["1-1.calls", "1-1.answers", "1-2.calls", "1-2.answers"], { cwd: folder });
-  const sockets = answerBranches(path.join(folder, "1"), 2, makeSystem);
-  const words = ["campaign", `shared:${folder}`, model, "--workers", "1", ...options];
+  const pipes = workers.flatMap((worker) => branches.flatMap((branch) => [`${worker}-${branch}.calls`, `${worker}-${branch}.answers`]));
+  execFileSync("mkfifo", pipes, { cwd: folder });
+  const sockets = workers.flatMap((worker) => answerBranches(path.join(folder, `${worker}`), branches.length, makeSystem));
+  const words = ["campaign", `shared:${folder}`, model, ...Object.entries(all).flat(2)];
   return new Promise((resolve, reject) => {
     execFile(process.env.PST ?? "pst", words, (error, report, explanation) => {
       sockets.forEach((socket) => socket.destroy());

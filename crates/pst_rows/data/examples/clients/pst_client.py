@@ -47,7 +47,9 @@ class Systems:
 
     def start(self, pipes, branches):
         """Starts a thread for each branch, and returns the threads."""
-        threads = [threading.Thread(target=self.answer_branch, args=(pipes, number), daemon=True) for number in range(1, branches + 1)]
+        threads = [
+            threading.Thread(target=self.answer_branch, args=(pipes, number), name=f"branch {number}", daemon=True) for number in range(1, branches + 1)
+        ]
         for thread in threads:
             thread.start()
         return threads
@@ -74,18 +76,19 @@ def check(model, make_system, trials=200, branches=2, limit=200, timeout=None, *
     """Runs a campaign on systems of this process, and raises an AssertionError that explains its smallest failure, if it has any.
 
     `model` is the file of the model. `make_system` takes no arguments and returns a system in the initial state of the model: an object that
-    has a method for each operation. Other arguments are options of `pst campaign`, as in `seed=7, repeats=20`. The test fails too if the
+    has a method for each operation. Other arguments are options of `pst campaign`, as in `seed=7, max_failures=1`. The test fails too if the
     campaign takes more than `timeout` seconds, as when a call hangs.
     """
-    words = [find_program(), "campaign", None, str(model), "--workers", "1", "--branches", str(branches)]
-    options.update(trials=trials, limit=limit)
-    words += [word for name, value in options.items() for word in (f"--{name}", str(value))]
+    options = {"workers": 1, "branches": branches, "trials": trials, "limit": limit, **options}
+    options = {name.replace("_", "-"): str(value) for name, value in options.items()}
+    workers, branches = [range(1, int(options[name]) + 1) for name in ("workers", "branches")]
     with tempfile.TemporaryDirectory() as folder:
-        words[2] = f"shared:{folder}"
-        pipes = [f"{folder}/1-{number}.{end}" for number in range(1, branches + 1) for end in ("calls", "answers")]
+        words = [find_program(), "campaign", f"shared:{folder}", str(model)]
+        words += [word for name, value in options.items() for word in (f"--{name}", value)]
+        pipes = [f"{folder}/{worker}-{branch}.{end}" for worker in workers for branch in branches for end in ("calls", "answers")]
         for pipe in pipes:
             os.mkfifo(pipe)
-        threads = Systems(make_system).start(f"{folder}/1", branches)
+        threads = [thread for worker in workers for thread in Systems(make_system).start(f"{folder}/{worker}", len(branches))]
         try:
             ran = subprocess.run(words, stdin=subprocess.DEVNULL, capture_output=True, text=True, timeout=timeout)
         except subprocess.TimeoutExpired:
@@ -102,4 +105,4 @@ def check(model, make_system, trials=200, branches=2, limit=200, timeout=None, *
 def places_of(threads):
     """Returns where the threads of the branches are."""
     frames = sys._current_frames()
-    return "".join(f"branch {number} is at\n{''.join(traceback.format_stack(frames[thread.ident]))}" for number, thread in enumerate(threads, 1) if thread.ident in frames)
+    return "".join(f"{thread.name} is at\n{''.join(traceback.format_stack(frames[thread.ident]))}" for thread in threads if thread.ident in frames)

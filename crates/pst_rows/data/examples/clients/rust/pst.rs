@@ -1,0 +1,60 @@
+//! Tests an object that several threads use: `check` is for `cargo test`, `serve` for `pst campaign --shared --client`.
+mod json;
+pub use json::Json;
+use std::{collections::BTreeMap, env, fs, fs::File, io::*, panic, process, sync::RwLock, thread};
+
+/// An object. A new one is in the initial state of the model.
+pub trait System: Send + Sync + 'static {
+    /// Makes the call of an operation. Several threads do so at once.
+    fn call(&self, name: &str, arguments: &[Json]) -> Json;
+}
+
+/// Answers the calls of all branches, each in a thread, until they end. Branch 1 makes a new system at each reset.
+fn answer_branches<S: System>(pipes: &str, branches: usize, make_system: fn() -> S) {
+    let system = &RwLock::new(make_system());
+    let answer_branch = move |branch| -> Result<()> {
+        let calls = BufReader::new(File::open(format!("{pipes}-{branch}.calls"))?);
+        let mut answers = File::options().write(true).open(format!("{pipes}-{branch}.answers"))?;
+        for line in calls.lines() {
+            let words = json::read_items(&mut line?[1..].chars().peekable(), json::read).unwrap_or_default();
+            let call = panic::AssertUnwindSafe(|| match &words[..] {
+                [Json::Text(name)] if name == "reset" => {
+                    (branch == 1).then(|| *system.write().unwrap() = make_system());
+                    Json::Bool(true)
+                }
+                [Json::Text(name), arguments @ ..] => system.read().unwrap().call(name, arguments),
+                _ => panic!("this is no call"),
+            });
+            write!(answers, "{}", panic::catch_unwind(call).map_or("failed: it panicked\n".into(), |it| format!("{it:?}\n")))?;
+        }
+        Ok(())
+    };
+    thread::scope(|threads| (1..=branches).for_each(|branch| drop(threads.spawn(move || answer_branch(branch)))));
+}
+
+/// Answers the calls of all branches on objects of this process.
+pub fn serve<S: System>(make_system: fn() -> S) {
+    let unset = "PST_PIPES is not set: run this client by pst campaign --client '..' --shared";
+    let pipes = env::var("PST_PIPES").map_err(|_| eprintln!("{unset}")).unwrap_or_else(|_| process::exit(1));
+    answer_branches(&pipes, env::var("PST_BRANCHES").unwrap().parse().unwrap(), make_system);
+}
+
+/// Runs a campaign on objects of this process, and panics with the smallest run that the model cannot explain, if any.
+/// The options are those of `pst campaign`: `&[("max_failures", "1")]`. PST names the program, if it is not `pst` on PATH.
+pub fn check<S: System>(model: &str, make_system: fn() -> S, options: &[(&str, &str)]) {
+    let options = [("workers", "1"), ("branches", "2")].iter().chain(options);
+    let options: BTreeMap<_, _> = options.map(|(name, value)| (name.replace('_', "-"), *value)).collect();
+    let [workers, branches] = ["workers", "branches"].map(|name| options[name].parse().expect(name));
+    let make = format!("cd $(mktemp -dt pst-XXXX) && printf %s $PWD && mkfifo {{1..{workers}}}-{{1..{branches}}}.{{calls,answers}}");
+    let folder = String::from_utf8(process::Command::new("bash").args(["-c", &make]).output().unwrap().stdout).unwrap();
+    for worker in 1..=workers {
+        let pipes = format!("{folder}/{worker}");
+        thread::spawn(move || answer_branches(&pipes, branches, make_system));
+    }
+    let mut campaign = process::Command::new(env::var("PST").unwrap_or("pst".into()));
+    campaign.args(["campaign", &format!("shared:{folder}"), model]);
+    let ran = campaign.args(options.iter().flat_map(|(name, value)| [format!("--{name}"), value.to_string()])).output();
+    fs::remove_dir_all(folder).unwrap();
+    let ran = ran.expect("no program pst: set PST or put it on PATH");
+    assert!(ran.status.success(), "{}{}", String::from_utf8_lossy(&ran.stderr), String::from_utf8_lossy(&ran.stdout));
+}
