@@ -59,7 +59,7 @@ are_of p number (e ∷ es) h =
           subst There next (h (suc k) x at)),
     )
 
-all_of : {S : Type 0} (may_end : Type 0) (A : S → SystemAnswers) (F : S → Fails) (R : S → ResetFails) (p : PlanView)
+pub all_of : {S : Type 0} (may_end : Type 0) (A : S → SystemAnswers) (F : S → Fails) (R : S → ResetFails) (p : PlanView)
     (systems : List S) (es : List (Entry RecordView))
     → AllGivenUnless may_end (λ s. MayGive (A s) (F s) (R s) p) systems es → AreOf p 0 es
 all_of may_end A F R p systems es h = are_of p 0 es (λ k e at.
