@@ -1,5 +1,4 @@
 pub mod Campaigning
-pub mod Driving
 pub mod Equal
 pub mod FailingRuns
 pub mod Fewest

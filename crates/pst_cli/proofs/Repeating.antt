@@ -1,128 +1,123 @@
--- Drives of a case, one after another, and the reports of items.
-use Rattle.std.proofs.Common.{◌≡◌, ◌≢◌, ◌≤◌, ◌<◌, ◌∙◌, ℕ, zero, suc, ◌+◌, Bool, true, false, List, [], ◌∷◌, ◌++◌, Option, Some, None, length, length-append, get_or, take, refl, sym, ap, subst, arith}
+-- Drives of a case, one after another.
+use Rattle.std.proofs.Common.{◌≡◌, ◌≢◌, ◌≤◌, ◌∙◌, ℕ, zero, suc, ◌+◌, Bool, true, false, List, [], ◌∷◌, ◌++◌, ◌⊎◌, inl, inr, Option, Some, None, Result, Ok, Err, IfOk, OnOk, length, length-append, refl, sym, ap, subst, arith}
 use Rattle.std.specs.Prelude.{if◌then◌else◌}
 use Rattle.pst_case.specs.declared.case.Case.{Case}
-use Rattle.pst_case.specs.declared.history.Run.{Run}
-use Rattle.pst_cli.proofs.Keeping.{reported_before}
-use Rattle.pst_cli.specs.RepeatOutput.{AreDriven, AreRepeated, IsRepeatOutput, IsRepeated, refused, run_refused, repeated, invalid, lost, drives_line, failed_of, is_accepted, shown_after, shown_of}
-use Rattle.pst_cli.specs.Output.{IsFirstRefusal, of_item, of_model}
-use Rattle.pst_cli.specs.RunOutput.{IsReported}
-use Rattle.pst_cli.specs.declared.answer.Output.{Output}
+use Rattle.pst_cli.specs.DrivenItems.{AreDriven, IsDrivenCase, IsDrivenOnce, IsRepeated, IsReported, repeated, invalid, lost, alone, counted, failed_of, is_accepted, report_status, shown_after, shown_of}
+use Rattle.pst_cli.specs.Output.{is_good}
 use Rattle.pst_cli.specs.declared.answer.Status.{Status}
-use Rattle.pst_cli.specs.declared.answer.Status.TheVariants.{Lost}
-use Rattle.pst_judge.specs.Validity.{IsValid}
+use Rattle.pst_cli.specs.declared.answer.Status.TheVariants.{Accepted, Failed, Lost}
+use Rattle.pst_cli.specs.declared.driven_item.DrivenItem.{DrivenItem}
+use Rattle.pst_cli.specs.declared.driven_item.ItemReport.{ItemReport}
+use Rattle.pst_cli.specs.declared.driven_item.ItemReport.TheVariants as became
+use Rattle.pst_judge.specs.Validity.{IsValid, IsWhy}
 use Rattle.pst_judge.specs.declared.by_order.CallOrder.{CallOrder}
+use Rattle.pst_judge.specs.declared.judgement.Judged.TheVariants as kind
+use Rattle.pst_judge.specs.declared.validated.Why.{Why}
+use Rattle.pst_judge.specs.declared.validated.Why.TheVariants.{NoMemory}
 use Rattle.pst_model.specs.declared.model.Source.{Source}
-use Rattle.pst_system.specs.Kept.{Answers, Fails, ResetFails, AreKept}
+use Rattle.pst_system.specs.Kept.{Answers, Fails, ResetFails}
 
-shown_more : (shown : Option Output) (os : List Output) (o : Output) → shown_of shown (os ++ o ∷ []) ≡ shown_after (shown_of shown os) o
-shown_more shown [] o = refl
-shown_more shown (x ∷ os) o = shown_more (shown_after shown x) os o
+shown_more : (shown : Option ItemReport) (rs : List ItemReport) (r : ItemReport) → shown_of shown (rs ++ r ∷ []) ≡ shown_after (shown_of shown rs) r
+shown_more shown [] r = refl
+shown_more shown (x ∷ rs) r = shown_more (shown_after shown x) rs r
 
-failed_more : (count : ℕ) (os : List Output) (o : Output)
-    → failed_of count (os ++ o ∷ []) ≡ (if is_accepted o.status then failed_of count os else failed_of count os + 1)
-failed_more count [] o = refl
-failed_more count (x ∷ os) o = failed_more (if is_accepted x.status then count else count + 1) os o
+failed_more : (count : ℕ) (rs : List ItemReport) (r : ItemReport)
+    → failed_of count (rs ++ r ∷ []) ≡ (if is_accepted (report_status r) then failed_of count rs else failed_of count rs + 1)
+failed_more count [] r = refl
+failed_more count (x ∷ rs) r = failed_more (if is_accepted (report_status x) then count else count + 1) rs r
 
-some_stays_by : (accepted : Bool) (o x : Output) (os : List Output) → (shown_of (Some x) os ≡ None → ⊥)
-    → (shown_of (Some o) os ≡ None → ⊥) → shown_of (if accepted then Some x else Some o) os ≡ None → ⊥
-some_stays_by true o x os later here e = later e
-some_stays_by false o x os later here e = here e
+some_stays_by : (accepted : Bool) (r x : ItemReport) (rs : List ItemReport) → (shown_of (Some x) rs ≡ None → ⊥)
+    → (shown_of (Some r) rs ≡ None → ⊥) → shown_of (if accepted then Some x else Some r) rs ≡ None → ⊥
+some_stays_by true r x rs later here e = later e
+some_stays_by false r x rs later here e = here e
 
 -- once a report is shown, one is
-some_stays : (o : Output) (os : List Output) → shown_of (Some o) os ≡ None → ⊥
-some_stays o [] e = absurd (cc)
-some_stays o (x ∷ os) e = some_stays_by (is_accepted o.status) o x os (some_stays x os) (some_stays o os) e
+some_stays : (r : ItemReport) (rs : List ItemReport) → shown_of (Some r) rs ≡ None → ⊥
+some_stays r [] e = absurd (cc)
+some_stays r (x ∷ rs) e = some_stays_by (is_accepted (report_status r)) r x rs (some_stays x rs) (some_stays r rs) e
 
-some_shown : (os : List Output) → 1 ≤ length os → shown_of None os ≡ None → ⊥
+some_shown : (rs : List ItemReport) → 1 ≤ length rs → shown_of None rs ≡ None → ⊥
 some_shown [] h e = absurd (omega arith)
-some_shown (o ∷ os) h e = some_stays o os e
+some_shown (r ∷ rs) h e = some_stays r rs e
 
 one_more_failed : (accepted : Bool) (failed drives : ℕ) → failed ≤ drives → (if accepted then failed else failed + 1) ≤ drives + 1
 one_more_failed true failed drives h = omega (arith, h)
 one_more_failed false failed drives h = omega (arith, h)
 
+not_lost : (good : Bool) → (if good then Accepted else Failed) ≡ Lost → ⊥
+not_lost true e = absurd (cc)
+not_lost false e = absurd (cc)
+
 module _ (order : CallOrder) (m : Source) (answers : Answers) (fails : Fails) (reset_fails : ResetFails) where
-  driven_more : (number : ℕ) (c : Case) (os : List Output) (o : Output) → AreDriven order m answers fails reset_fails number c os
-      → IsReported order m answers fails reset_fails number c o.text.items o.status → o.status ≢ Lost
-      → AreDriven order m answers fails reset_fails number c (os ++ o ∷ [])
-  driven_more number c [] o h is kept = (is, kept, tt)
-  driven_more number c (x ∷ os) o h is kept = (h.0, h.1, driven_more number c os o h.2 is kept)
+  driven_more : (c : Case) (rs : List ItemReport) (r : ItemReport) → AreDriven order m answers fails reset_fails c rs
+      → IsReported order m answers fails reset_fails c r → report_status r ≢ Lost
+      → AreDriven order m answers fails reset_fails c (rs ++ r ∷ [])
+  driven_more c [] r h is kept = (is, kept, tt)
+  driven_more c (x ∷ rs) r h is kept = (h.0, h.1, driven_more c rs r h.2 is kept)
 
   -- so many drives were made, of which so many failed, and this report is shown of them
-  pub record HasDriven (number : ℕ) (c : Case) (drives : ℕ) (shown : Option Output) (failed : ℕ) : Type 0 where
-    pub reports : List Output
+  pub record HasDriven (c : Case) (drives : ℕ) (shown : Option ItemReport) (failed : ℕ) : Type 0 where
+    pub reports : List ItemReport
     pub count : length reports ≡ drives
-    pub driven : AreDriven order m answers fails reset_fails number c reports
+    pub driven : AreDriven order m answers fails reset_fails c reports
     pub shows : shown ≡ shown_of None reports
     pub fails_so : failed ≡ failed_of 0 reports
     pub within : failed ≤ drives
 
-  pub not_driven : (number : ℕ) (c : Case) → HasDriven number c 0 None 0
-  not_driven number c =
+  pub not_driven : (c : Case) → HasDriven c 0 None 0
+  not_driven c =
       let none : 0 ≤ 0 = omega arith in
       record { reports = []; count = refl; driven = tt; shows = refl; fails_so = refl; within = none }
 
-  pub one_more : (number : ℕ) (c : Case) (drives : ℕ) (shown : Option Output) (failed : ℕ) (o : Output)
-      → HasDriven number c drives shown failed → IsReported order m answers fails reset_fails number c o.text.items o.status → o.status ≢ Lost
-      → HasDriven number c (drives + 1) (shown_after shown o) (if is_accepted o.status then failed else failed + 1)
-  one_more number c drives shown failed o h is kept = record {
-    reports = h.reports ++ o ∷ [];
-    count = length-append h.reports (o ∷ []) ∙ ap (λ n. n + 1) h.count;
-    driven = driven_more number c h.reports o h.driven is kept;
-    shows = ap (λ s. shown_after s o) h.shows ∙ sym (shown_more None h.reports o);
-    fails_so = ap (λ n. if is_accepted o.status then n else n + 1) h.fails_so ∙ sym (failed_more 0 h.reports o);
-    within = one_more_failed (is_accepted o.status) failed drives h.within;
+  pub one_more : (c : Case) (drives : ℕ) (shown : Option ItemReport) (failed : ℕ) (r : ItemReport)
+      → HasDriven c drives shown failed → IsReported order m answers fails reset_fails c r → report_status r ≢ Lost
+      → HasDriven c (drives + 1) (shown_after shown r) (if is_accepted (report_status r) then failed else failed + 1)
+  one_more c drives shown failed r h is kept = record {
+    reports = h.reports ++ r ∷ [];
+    count = length-append h.reports (r ∷ []) ∙ ap (λ n. n + 1) h.count;
+    driven = driven_more c h.reports r h.driven is kept;
+    shows = ap (λ s. shown_after s r) h.shows ∙ sym (shown_more None h.reports r);
+    fails_so = ap (λ n. if is_accepted (report_status r) then n else n + 1) h.fails_so ∙ sym (failed_more 0 h.reports r);
+    within = one_more_failed (is_accepted (report_status r)) failed drives h.within;
   }
 
-  pub all_driven : (number : ℕ) (c : Case) (repeats : ℕ) (shown : Output) (failed : ℕ) (text : List ℕ) (status : Status) → IsValid m c
-      → HasDriven number c repeats (Some shown) failed → text ≡ shown.text.items ++ drives_line number repeats failed → status ≡ shown.status
-      → IsRepeated order m answers fails reset_fails repeats number c text status
-  all_driven number c repeats shown failed text status is h t s =
-      repeated is h.reports h.count h.driven shown (sym h.shows) (t ∙ ap (λ n. shown.text.items ++ drives_line number repeats n) h.fails_so) s
+  pub all_driven : (c : Case) (repeats : ℕ) (shown : ItemReport) (failed : ℕ) → IsValid m c
+      → HasDriven c repeats (Some shown) failed → IsRepeated order m answers fails reset_fails repeats c (counted shown repeats failed)
+  all_driven c repeats shown failed is h =
+      repeated is h.reports h.count h.driven shown (sym h.shows) (ap (counted shown repeats) h.fails_so)
 
-  pub some_driven : (number : ℕ) (c : Case) (repeats failed : ℕ) → 1 ≤ repeats → HasDriven number c repeats None failed → ⊥
-  some_driven number c repeats failed some h =
+  pub some_driven : (c : Case) (repeats failed : ℕ) → 1 ≤ repeats → HasDriven c repeats None failed → ⊥
+  some_driven c repeats failed some h =
       let enough : 1 ≤ length h.reports = omega (arith, some, h.count) in
       some_shown h.reports enough (sym h.shows)
 
-  -- the report of one more item
-  pub repeated_more : (repeats number i : ℕ) (runs : List Run) (os : List Output) (o : Output) (d : Run) → i < length runs
-      → AreRepeated order m answers fails reset_fails repeats number (take i runs) os
-      → IsRepeated order m answers fails reset_fails repeats (i + number) (get_or runs i d).shaped.case o.text.items o.status
-      → AreRepeated order m answers fails reset_fails repeats number (take (suc i) runs) (os ++ o ∷ [])
-  repeated_more repeats number i [] os o d h all is = absurd (omega arith)
-  repeated_more repeats number zero (run ∷ runs) [] o d h all is =
-      let here : 0 + number ≡ number = omega arith in
-      (subst (λ n. IsRepeated order m answers fails reset_fails repeats n run.shaped.case o.text.items o.status) here is, tt)
-  repeated_more repeats number zero (run ∷ runs) (x ∷ os) o d h all is = absurd all
-  repeated_more repeats number (suc i) (run ∷ runs) [] o d h all is = absurd all
-  repeated_more repeats number (suc i) (run ∷ runs) (x ∷ os) o d h all is =
-      let here : suc i + number ≡ i + (number + 1) = omega arith in
-      let below : i < length runs = omega arith in (
-        all.0,
-        repeated_more repeats (number + 1) i runs os o d below all.1
-            (subst (λ n. IsRepeated order m answers fails reset_fails repeats n (get_or runs i d).shaped.case o.text.items o.status) here is),
-      )
+  -- a drive that was lost is the report of its case
+  pub lost_drive : (repeats : ℕ) (c : Case) (r : ItemReport) → IsReported order m answers fails reset_fails c r → report_status r ≡ Lost
+      → IsRepeated order m answers fails reset_fails repeats c (alone r)
+  lost_drive repeats c (became.Judged run judged) is e = absurd (not_lost (is_good judged) e)
+  lost_drive repeats c (became.Lost fault) is e = lost is.0 fault is.1 refl
 
--- a report by the relations as they are is one by the relations as they were
-driven_before : {A B : Answers} {F G : Fails} {R S : ResetFails} (order : CallOrder) (m : Source) (number : ℕ) (c : Case) (os : List Output)
-    → AreKept A B F G R S → AreDriven order m A F R number c os → AreDriven order m B G S number c os
-driven_before order m number c [] k h = tt
-driven_before order m number c (o ∷ os) k h =
-    (reported_before order m number c o.text.items o.status k h.0, h.1, driven_before order m number c os k h.2)
+  -- what is driven once
+  pub once : {E : Type 0} (c : Case) (r : Result DrivenItem E) (n : ℕ) → n ≡ 0 → IfOk r (IsDrivenOnce order m answers fails reset_fails c)
+      → IfOk r (IsDrivenCase order m answers fails reset_fails (Some n) c)
+  once {E} c r n is h =
+      let At : ℕ → Type 0 = λ k. IfOk r (IsDrivenCase order m answers fails reset_fails (Some k) c) in
+      subst At (sym is) h
 
-pub repeated_before : {A B : Answers} {F G : Fails} {R S : ResetFails} (order : CallOrder) (m : Source) (repeats number : ℕ) (c : Case) (text : List ℕ)
-    (status : Status) → AreKept A B F G R S → IsRepeated order m A F R repeats number c text status
-    → IsRepeated order m B G S repeats number c text status
-repeated_before order m repeats number c text status k (repeated is reports count driven shown shows lines ending) =
-    repeated is reports count (driven_before order m number c reports k driven) shown shows lines ending
-repeated_before order m repeats number c text status k (invalid why reason lines ending) = invalid why reason lines ending
-repeated_before order m repeats number c text status k (lost report ending) =
-    lost (reported_before order m number c text status k report) ending
+  -- what is driven a positive number of times
+  pub often : {E : Type 0} (c : Case) (r : Result DrivenItem E) (n : ℕ) → 1 ≤ n → IfOk r (IsRepeated order m answers fails reset_fails n c)
+      → IfOk r (IsDrivenCase order m answers fails reset_fails (Some n) c)
+  often c r zero le h = absurd (omega (arith, le))
+  often c r (suc n) le h = h
 
--- the first refusal of an input is an output of `pst run --repeats`
-pub refused_repeats : (order : CallOrder) (A : Answers) (F : Fails) (R : ResetFails) (repeats : ℕ) (input text : List ℕ) (status : Status)
-    → IsFirstRefusal input text status → IsRepeatOutput order A F R repeats input text status
-refused_repeats order A F R repeats input text status (of_model refusal h t s) = refused refusal h t s
-refused_repeats order A F R repeats input text status (of_item m trees fault h e t s) = run_refused m trees fault h e t s
+-- what became of an item whose case is not valid, however often it was to be driven
+pub invalid_case : {E : Type 0} (order : CallOrder) (m : Source) (A : Answers) (F : Fails) (R : ResetFails) (repeats : Option ℕ) (c : Case) (why : Why)
+    → ((why ≡ NoMemory) ⊎ IsWhy m c why) → (r : Result DrivenItem E) → OnOk r (why ≡ NoMemory → ⊥)
+    → IfOk r (λ item. item ≡ alone (became.Judged None (kind.Invalid why))) → IfOk r (IsDrivenCase order m A F R repeats c)
+invalid_case order m A F R repeats c why is (Err e) reason same = tt
+invalid_case order m A F R repeats c why (inl e) (Ok item) reason same = absurd (reason e)
+invalid_case order m A F R None c why (inr is) (Ok item) reason same =
+    let Of : DrivenItem → Type 0 = λ i. IsDrivenOnce order m A F R c i in subst Of (sym same) (is, refl)
+invalid_case order m A F R (Some zero) c why (inr is) (Ok item) reason same =
+    let Of : DrivenItem → Type 0 = λ i. IsDrivenOnce order m A F R c i in subst Of (sym same) (is, refl)
+invalid_case order m A F R (Some (suc n)) c why (inr is) (Ok item) reason same = invalid (kind.Invalid why) is same

@@ -3,6 +3,7 @@ use Rattle.std.specs.Prelude.{◌≡◌, ◌⊎◌, ℕ, Bool, true, false, List
 use Rattle.std.specs.declared.alloc.AllocError.{AllocError}
 use Rattle.pst_cli.specs.Head.{refusal_line}
 use Rattle.pst_cli.specs.JsonOutput.{memory_object, refusal_object}
+use Rattle.pst_cli.specs.Output.{run_line}
 use Rattle.pst_cli.specs.Sending.{Sends, memory_line}
 use Rattle.pst_cli.specs.declared.answer.Answer.{Answer}
 use Rattle.pst_cli.specs.declared.answer.Destinations.{Destinations}
@@ -10,6 +11,9 @@ use Rattle.pst_cli.specs.declared.answer.OutputForm.{OutputForm}
 use Rattle.pst_cli.specs.declared.answer.OutputForm.TheVariants as form
 use Rattle.pst_cli.specs.declared.answer.Status.{Status}
 use Rattle.pst_cli.specs.declared.answer.Status.TheVariants.{Refused, Lost}
+use Rattle.pst_rejudge.specs.Objects.{object_line}
+use Rattle.pst_rejudge.specs.Verdicts.{refused_fields}
+use Rattle.pst_runs.specs.declared.reader.RunFault.{RunFault}
 use Rattle.pst_typing.specs.declared.loading.Refusal.{Refusal}
 
 -- what is written if an allocation fails
@@ -21,6 +25,11 @@ memory_of form.Json = memory_object
 abbrev pub refusal_of : OutputForm → Refusal → List ℕ
 refusal_of form.Text refusal = refusal_line refusal
 refusal_of form.Json refusal = refusal_object refusal
+
+-- the refusal of an item, on its line
+abbrev pub fault_of : OutputForm → RunFault → List ℕ
+fault_of form.Text fault = run_line fault
+fault_of form.Json fault = object_line (refused_fields fault.run fault.kind fault.command)
 
 -- the text of an answer, or if an allocation failed these bytes
 abbrev pub sent_text : List ℕ → Result Answer AllocError → List ℕ
@@ -69,7 +78,3 @@ pub record Reaches (memory : List ℕ) (IsOutput : List ℕ → Status → Type 
   pub lawful : IsOutput text status ⊎ ((text ≡ memory) × (status ≡ Lost) × (refuses ≡ true))
   pub refusing : refuses ≡ true → (status ≡ Refused) ⊎ (status ≡ Lost)
   pub sent : Goes refuses text status
-
--- an output of which nothing is said
-abbrev pub Unsaid : List ℕ → Status → Type 0
-Unsaid text status = Unit {0}

@@ -1,14 +1,12 @@
 -- Which output is meant by the options of a command, and what is returned beside it.
-use Rattle.std.specs.Prelude.{ℕ, zero, suc, Bool, true, false, List, Option, Some, None, All}
-use Rattle.pst_cli.specs.Answering.{Unsaid}
+use Rattle.std.specs.Prelude.{ℕ, Bool, true, false, List, All}
 use Rattle.pst_cli.specs.CampaignEnd.{IsEarlyOutput}
 use Rattle.pst_cli.specs.CampaignOutput.{Gives}
 use Rattle.pst_cli.specs.JsonOutput.{IsCheckJson, IsJudgeJson}
 use Rattle.pst_cli.specs.KeepingOn.{HoldsAnswers, IsShownKeepingOn}
 use Rattle.pst_cli.specs.Kept.{HoldsJudged}
 use Rattle.pst_cli.specs.Output.{IsCheckOutput, IsShownOutput}
-use Rattle.pst_cli.specs.RepeatOutput.{IsRepeatOutput}
-use Rattle.pst_cli.specs.RunOutput.{IsRunOutputBy}
+use Rattle.pst_cli.specs.RunOutput.{IsDriveOutput}
 use Rattle.pst_cli.specs.declared.answer.OutputForm.{OutputForm}
 use Rattle.pst_cli.specs.declared.answer.OutputForm.TheVariants as form
 use Rattle.pst_cli.specs.declared.answer.Status.{Status}
@@ -64,19 +62,9 @@ IsJudgedInput input of = (order : CallOrder) × HoldsJudging order input of
 
 -- ---- `pst run`
 
--- each case driven once; or as often as is said
-abbrev pub times_answer : CallOrder → Option ℕ → Answers → Fails → ResetFails → OutputOf
-times_answer order None answers fails reset_fails = IsRunOutputBy order answers fails reset_fails
-times_answer order (Some zero) answers fails reset_fails = IsRunOutputBy order answers fails reset_fails
-times_answer order (Some (suc n)) answers fails reset_fails = IsRepeatOutput order answers fails reset_fails (suc n)
-
--- of the objects nothing is said
-abbrev pub drive_answer : CallOrder → OutputForm → Option ℕ → Answers → Fails → ResetFails → OutputOf
-drive_answer order form.Text repeats answers fails reset_fails = times_answer order repeats answers fails reset_fails
-drive_answer order form.Json repeats answers fails reset_fails = λ input. Unsaid
-
+-- what became of each item, as text or as JSON, each case driven once or as often as is said
 abbrev pub IsDriveAnswer : DriveOptions → Answers → Fails → ResetFails → OutputOf
-IsDriveAnswer options = drive_answer options.order options.form options.repeats
+IsDriveAnswer options = IsDriveOutput options.form options.order options.repeats
 
 -- ---- `pst campaign`
 

@@ -3,8 +3,7 @@ use Rattle.std.specs.Prelude.{◌≡◌, ℕ, ◌+◌, Bool, false, if◌then◌
 use Rattle.std.specs.List.{AllZip}
 use Rattle.pst_case.specs.declared.history.Run.{Run}
 use Rattle.pst_cli.specs.Head.{refusal_line}
-use Rattle.pst_cli.specs.Output.{AreJudged, is_good, item_line, item_lines, run_line, status_of}
-use Rattle.pst_cli.specs.RunOutput.{status_of_one}
+use Rattle.pst_cli.specs.Output.{AreJudged, is_good, item_line, item_lines, run_line, status_of, status_of_one}
 use Rattle.pst_cli.specs.Status.{or_worse}
 use Rattle.pst_cli.specs.declared.lines.Shown.{Shown}
 use Rattle.pst_cli.specs.declared.lines.Shown.TheVariants as shown

@@ -8,6 +8,7 @@ pub mod CampaignView
 pub mod ChosenItem
 pub mod Commands
 pub mod ConvertOutput
+pub mod DrivenItems
 pub mod ExplainOutput
 pub mod GenerateOutput
 pub mod GraphOutput
@@ -17,7 +18,6 @@ pub mod Known
 pub mod ListOutput
 pub mod OneOutput
 pub mod Output
-pub mod RepeatOutput
 pub mod RunOutput
 pub mod Sending
 pub mod Status

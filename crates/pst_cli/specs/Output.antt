@@ -74,6 +74,10 @@ is_good (kind.Verdict verdict) = is_explained verdict
 is_good kind.Valid = true
 is_good (kind.Invalid why) = false
 
+-- Accepted where it is explained or valid
+abbrev pub status_of_one : Judged → Status
+status_of_one j = if is_good j then Accepted else Failed
+
 -- Accepted where all items are explained or valid
 abbrev pub status_of : List Judged → Status
 status_of js = if list_all is_good js then Accepted else Failed

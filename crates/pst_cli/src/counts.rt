@@ -1,5 +1,6 @@
 //! How many items had each result.
 
+use crate::driven_item::{DrivenItem, ItemReport};
 use pst_case::Run;
 use pst_judge::{Judged, Verdict, Why};
 use pst_rejudge::ItemResult;
@@ -63,8 +64,17 @@ impl ItemResultCounts {
         }
     }
 
+    /// Counts a case that is not valid, by the reason `why`. If that is `Why::NoMemory`, counts the case as lost.
+    fn add_invalid_or_lost(&mut self, why: &Why) {
+        match why {
+            Why::PreFalse { .. } => increment_count(&mut self.prefalse),
+            Why::CallbackFault { .. } => increment_count(&mut self.casefault),
+            Why::NoMemory => increment_count(&mut self.lost),
+        }
+    }
+
     /// Keeps a driven run if it is the first with a reply that is no value.
-    pub(crate) fn keep_run_if_first_broken(&mut self, number: usize, run: Run, judged: &Judged) {
+    fn keep_run_if_first_broken(&mut self, number: usize, run: Run, judged: &Judged) {
         if let Judged::Verdict(Verdict::Broken(_)) = judged {
             if self.first_broken.is_none() {
                 self.first_broken = Some((number, run));
@@ -72,12 +82,20 @@ impl ItemResultCounts {
         }
     }
 
-    /// Counts a case that is not valid, by the reason `why`. If that is `Why::NoMemory`, counts the case as lost.
-    pub(crate) fn add_invalid_or_lost(&mut self, why: &Why) {
-        match why {
-            Why::PreFalse { .. } => increment_count(&mut self.prefalse),
-            Why::CallbackFault { .. } => increment_count(&mut self.casefault),
-            Why::NoMemory => self.add_lost(),
+    /// Counts driven items by what became of them, and keeps the first run with a reply that is no value.
+    pub(crate) fn add_driven_items(&mut self, items: Vec<DrivenItem>) {
+        let mut number: usize = 0;
+        for item in items {
+            increment_count(&mut number);
+            match item.report {
+                ItemReport::Judged { run, judged } => {
+                    self.add(&judged);
+                    if let Some(run) = run {
+                        self.keep_run_if_first_broken(number, run, &judged);
+                    }
+                }
+                ItemReport::Lost(_) => increment_count(&mut self.lost),
+            }
         }
     }
 
@@ -96,26 +114,5 @@ impl ItemResultCounts {
                 ItemResult::Refused { .. } => increment_count(&mut self.refused),
             }
         }
-    }
-
-    /// Adds the counts of `other`, and takes its first broken run if this one has no broken run yet.
-    pub(crate) fn add_counts_and_first_broken_run(&mut self, other: ItemResultCounts) {
-        self.explained = self.explained.saturating_add(other.explained);
-        self.unexplained = self.unexplained.saturating_add(other.unexplained);
-        self.fault = self.fault.saturating_add(other.fault);
-        self.broken = self.broken.saturating_add(other.broken);
-        self.valid = self.valid.saturating_add(other.valid);
-        self.prefalse = self.prefalse.saturating_add(other.prefalse);
-        self.casefault = self.casefault.saturating_add(other.casefault);
-        self.refused = self.refused.saturating_add(other.refused);
-        self.lost = self.lost.saturating_add(other.lost);
-        if self.first_broken.is_none() {
-            self.first_broken = other.first_broken;
-        }
-    }
-
-    /// Counts an item that could not be driven.
-    pub(crate) fn add_lost(&mut self) {
-        increment_count(&mut self.lost);
     }
 }

@@ -6,14 +6,15 @@ ghost use Rattle.std.specs.Prelude.{◌≡◌, IfOk, MatchResult, true, IfSome};
 ghost use Rattle.pst_typing.specs.Loading.{Holds, IsRefusal};
 ghost use Rattle.pst_cli.specs.Answers.{Answers};
 ghost use Rattle.pst_cli.specs.Output.{HoldsRuns, IsFirstRefusal};
+ghost use Rattle.pst_cli.specs.RunOutput.{IsRefusedIn};
 ghost use Rattle.pst_cli.specs.Kept.{HoldsJudged, keeps_all};
 ghost use Rattle.pst_rejudge.specs.Parts.{joined};
 ghost use Rattle.std.specs.Thread.{IsSync};
 ghost use Rattle.pst_compile.specs.contracts.compiled.Compiled.{the_row as compiled_row};
 ghost use Rattle.pst_judge.specs.contracts.judgement.Judged.{the_row as judged_row};
 
-use crate::answer::{Answer, refusal_answer};
-use crate::judge::{read_runs_of_trees, refused_run_answer};
+use crate::answer::{Answer, OutputForm};
+use crate::judge::{read_runs_of_trees, refused_item_answer, refused_model_answer};
 use pst_case::Run;
 use pst_compile::{Code, Compiled, compile};
 use pst_explain::tree_places_in_input;
@@ -71,7 +72,27 @@ pub fn count_items_of_input(alloc: Global, input: &[u8]) -> Result<usize, AllocE
     Ok(trees.len().saturating_sub(1))
 }
 
-/// Reads the input from its first byte to its last, and returns the model and the runs, or the first refusal.
+/// Reads the input from its first byte to its last, and returns the model and the runs, or the first refusal in a form.
+pub(crate) fn read_model_and_runs_in_form(
+    alloc: Global,
+    form: OutputForm,
+    input: &[u8],
+) -> Result<Result<ModelAndRuns, Answer>, AllocError>
+    ensures { IfOk result (λ read. MatchResult read
+        (λ file. HoldsRuns input.now file.compiled file.runs.items)
+        (Answers (IsRefusedIn form input.now))) }
+{
+    let CompiledModelAndTrees { compiled, trees } = match compile_model_of_input(alloc, input)? {
+        Ok(file) => file,
+        Err(refusal) => return Ok(Err(refused_model_answer(alloc, form, &refusal)?)),
+    };
+    match read_runs_of_trees(alloc, compiled.typed(), trees_after_model(trees.as_slice()))? {
+        Ok(runs) => Ok(Ok(ModelAndRuns { compiled, runs })),
+        Err(fault) => Ok(Err(refused_item_answer(alloc, form, &fault)?)),
+    }
+}
+
+/// Reads the input from its first byte to its last, and returns the model and the runs, or the first refusal as text.
 pub fn read_model_and_runs_of_input(
     alloc: Global,
     input: &[u8],
@@ -80,14 +101,7 @@ pub fn read_model_and_runs_of_input(
         (λ file. HoldsRuns input.now file.compiled file.runs.items)
         (Answers (IsFirstRefusal input.now))) }
 {
-    let CompiledModelAndTrees { compiled, trees } = match compile_model_of_input(alloc, input)? {
-        Ok(file) => file,
-        Err(refusal) => return Ok(Err(refusal_answer(alloc, &refusal)?)),
-    };
-    match read_runs_of_trees(alloc, compiled.typed(), trees_after_model(trees.as_slice()))? {
-        Ok(runs) => Ok(Ok(ModelAndRuns { compiled, runs })),
-        Err(fault) => Ok(Err(refused_run_answer(alloc, &fault)?)),
-    }
+    read_model_and_runs_in_form(alloc, OutputForm::Text, input)
 }
 
 /// A model, the items after it, and the judgement on each.

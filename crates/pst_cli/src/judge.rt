@@ -1,12 +1,12 @@
 //! `pst judge`.
 ghost use Rattle.std.specs.Prelude.{◌≡◌, false, All, IfOk, IfSome, MatchResult, Ok, Err, None, string_bytes};
 ghost use Rattle.std.specs.List.{list_all};
-ghost use Rattle.pst_cli.specs.Answering.{Delivers, Reaches, Stands, memory_of, refusal_of};
+ghost use Rattle.pst_cli.specs.Answering.{Delivers, Reaches, Stands, fault_of, memory_of, refusal_of};
 ghost use Rattle.pst_cli.specs.Answers.{Answers, IsRefusalBy, shown_results};
 ghost use Rattle.pst_cli.specs.Commands.{HoldsJudging, IsJudgeAnswer, each_answer};
 ghost use Rattle.pst_cli.specs.KeepingOn.{HoldsAnswers, IsKeepingOnOutput, IsShownKeepingOn};
 ghost use Rattle.pst_cli.specs.Kept.{HoldsJudged};
-ghost use Rattle.pst_cli.specs.Output.{IsJudgeOutput, IsShownOutput, is_good, run_line, status_of};
+ghost use Rattle.pst_cli.specs.Output.{IsJudgeOutput, IsShownOutput, is_good, run_line, status_of, status_of_one};
 ghost use Rattle.pst_cli.specs.Sending.{Prints};
 ghost use Rattle.pst_cli.specs.declared.answer.Status.TheVariants.{Refused};
 ghost use Rattle.pst_judge.specs.declared.by_order.CallOrder.TheVariants.{Any};
@@ -25,7 +25,7 @@ use crate::keep::{
     worst_status_of_item_results,
 };
 use crate::lines::{Shown, shown_item_verdict_lines};
-use crate::objects::{refusal_object_answer, shown_item_json_objects};
+use crate::objects::{refusal_object_answer, refused_item_object_answer, shown_item_json_objects};
 use pst_case::{CaseFaultKind, Run};
 use pst_judge::{CallOrder, Judged, Verdict};
 use pst_model::Typed;
@@ -68,6 +68,17 @@ pub fn is_explained_or_valid(judged: &Judged) -> bool
     }
 }
 
+/// `Accepted` if the item is explained or valid, else `Failed`.
+pub fn status_of_judgement(judged: &Judged) -> Status
+    ensures { result ≡ status_of_one judged.now }
+{
+    if is_explained_or_valid(judged) {
+        Status::Accepted
+    } else {
+        Status::Failed
+    }
+}
+
 fn are_all_explained_or_valid(all: &[Judged]) -> bool
     ensures { result ≡ list_all is_good all.now }
 {
@@ -93,10 +104,17 @@ pub fn refused_run_line(alloc: Global, fault: &RunFault) -> Result<String, Alloc
 }
 
 /// The refusal of an item.
-pub(crate) fn refused_run_answer(alloc: Global, fault: &RunFault) -> Result<Answer, AllocError>
-    ensures { IfOk result (IsRefusalBy (run_line fault.now) Refused) }
+pub(crate) fn refused_item_answer(
+    alloc: Global,
+    form: OutputForm,
+    fault: &RunFault,
+) -> Result<Answer, AllocError>
+    ensures { IfOk result (IsRefusalBy (fault_of form fault.now) Refused) }
 {
-    Ok(Answer::refusal(refused_run_line(alloc, fault)?))
+    match form {
+        OutputForm::Text => Ok(Answer::refusal(refused_run_line(alloc, fault)?)),
+        OutputForm::Json => refused_item_object_answer(alloc, fault),
+    }
 }
 
 /// How `pst judge` judges items and writes their verdicts.

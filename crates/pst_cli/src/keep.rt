@@ -6,9 +6,8 @@ ghost use Rattle.pst_typing.specs.Loading.{IsRefusal};
 
 use crate::answer::Status;
 use crate::input::{CompiledModelAndTrees, compile_model_of_input, prove_compiled_models_are_sync};
-use crate::judge::{is_explained_or_valid, refused_run_line};
+use crate::judge::{is_explained_or_valid, refused_run_line, status_of_judgement};
 use crate::lines::{Shown, add_item_verdict_line};
-use crate::run::status_of_judgement;
 use pst_judge::{CallOrder, Judge};
 use pst_rejudge::{ItemResult, ProgressCounter, read_and_judge_each_tree};
 use pst_runs::RunFault;

@@ -14,8 +14,8 @@ use crate::answer::{
     send,
 };
 use crate::input::{ModelAndRuns, compile_model_of_input, read_model_and_runs_of_input};
+use crate::item_output::tree_line_of_run;
 use crate::objects::check_object_answer;
-use crate::run::tree_line_of_run;
 use pst_case::Run;
 use pst_compile::listing;
 use pst_json_runs::run_json_line;

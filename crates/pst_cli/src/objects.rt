@@ -4,16 +4,17 @@ ghost use Rattle.pst_cli.specs.Answers.{Answers, IsRefusalBy};
 ghost use Rattle.pst_cli.specs.JsonOutput.{IsCheckJson, IsModelObject, answer_object, refusal_object, shown_object, shown_objects};
 ghost use Rattle.pst_cli.specs.declared.answer.Status.TheVariants.{Refused};
 ghost use Rattle.pst_rejudge.specs.Objects.{object_line};
-ghost use Rattle.pst_rejudge.specs.Verdicts.{accepted_fields};
+ghost use Rattle.pst_rejudge.specs.Verdicts.{accepted_fields, refused_fields};
 
 use crate::answer::{Answer, Status};
 use crate::keep::is_result_explained_or_valid;
 use crate::lines::Shown;
 use pst_model::Typed;
 use pst_rejudge::{
-    ItemResult, accepted_model_fields, json_object_line, judged_item_fields, refused_item_fields,
-    refused_model_fields,
+    Field, ItemResult, accepted_model_fields, json_object_line, judged_item_fields,
+    refused_item_fields, refused_model_fields,
 };
+use pst_runs::RunFault;
 use pst_typing::{Refusal, load, model_name};
 use std::alloc::{AllocError, Global};
 
@@ -66,16 +67,35 @@ pub(crate) fn shown_item_json_objects(
     Ok(text)
 }
 
+/// The refusal of the whole input by the object with these members.
+fn refusal_by_object(alloc: Global, fields: &[Field]) -> Result<Answer, AllocError>
+    ensures { IfOk result (IsRefusalBy (object_line fields.now) Refused) }
+{
+    Ok(Answer {
+        text: json_object_line(alloc, fields)?,
+        status: Status::Refused,
+        refuses: true,
+    })
+}
+
 /// The object of a refusal.
 pub(crate) fn refusal_object_answer(alloc: Global, refusal: &Refusal) -> Result<Answer, AllocError>
     ensures { IfOk result (IsRefusalBy (refusal_object refusal.now) Refused) }
 {
     let fields = refused_model_fields(alloc, refusal)?;
-    Ok(Answer {
-        text: json_object_line(alloc, fields.as_slice())?,
-        status: Status::Refused,
-        refuses: true,
-    })
+    refusal_by_object(alloc, fields.as_slice())
+}
+
+/// The object of an item that refuses the input.
+pub(crate) fn refused_item_object_answer(
+    alloc: Global,
+    fault: &RunFault,
+) -> Result<Answer, AllocError>
+    ensures { IfOk result (IsRefusalBy
+        (object_line (refused_fields fault.now.run fault.now.kind fault.now.command)) Refused) }
+{
+    let fields = refused_item_fields(alloc, fault.run, fault.kind, fault.command)?;
+    refusal_by_object(alloc, fields.as_slice())
 }
 
 /// The line that a command writes alone, as JSON, if an allocation fails.

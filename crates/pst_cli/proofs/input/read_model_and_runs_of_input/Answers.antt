@@ -1,20 +1,5 @@
-use Rattle.std.proofs.Common.{◌≡◌, Err, sym, ap, ◌∙◌}
-use Rattle.pst_cli.proofs.Printing.{refuses_so}
-use Rattle.pst_cli.specs.Output.{IsFirstRefusal, of_item, of_model}
-use Rattle.pst_typing.specs.Loading.{items_of}
-use Rattle.pst_runs.specs.Items.{runs_of}
+use Rattle.pst_cli.proofs.Reading.{read_as_text}
 use Rattle.pst_cli.proofs.input.read_model_and_runs_of_input.Goals as goal
 
-pub returns-in-Err : goal.returns-in-Err
-returns-in-Err c =
-    refuses_so (IsFirstRefusal c.args.input.now) _ _ c.in_ok-refusal_answer-in-Err.ensures
-    (of_model c.in-Err.refusal (rw c.in-Err.is at c.in_ok-file.ensures))
-
-pub returns-in_ok-refused_run_answer-in-Err-2 : goal.returns-in_ok-refused_run_answer-in-Err-2
-returns-in_ok-refused_run_answer-in-Err-2 c =
-    let m = c.in-Ok.file.compiled in
-    let trees = c.in-Ok.file.trees.items in
-    let items : items_of trees ≡ c.trees_after_model.result.now = ap items_of (sym c.as_slice.ensures.value) ∙ sym c.trees_after_model.ensures in
-    let read : runs_of m c.trees_after_model.result.now ≡ Err c.in-Err-2.fault = rw (c.typed.ensures, c.in-Err-2.is) at c.in_ok-runs.ensures.runs in
-    refuses_so (IsFirstRefusal c.args.input.now) _ _ c.in_ok-refused_run_answer-in-Err-2.ensures
-    (of_item m trees c.in-Err-2.fault (rw c.in-Ok.is at c.in_ok-file.ensures) (ap (runs_of m) items ∙ read))
+pub returns : goal.returns
+returns c = read_as_text c.args.input.now c.read_model_and_runs_in_form.result c.read_model_and_runs_in_form.ensures
