@@ -8,7 +8,7 @@ use Rattle.pst.specs.declared.subcommands.Subcommand.{Subcommand}
 use Rattle.pst.specs.declared.subcommands.Subcommand.TheVariants.{Judge, Run, Campaign}
 use Rattle.pst_campaign.specs.Entries.{MayGive}
 use Rattle.pst_cli.specs.Answering.{Delivers, Reaches, memory_of}
-use Rattle.pst_cli.specs.Commands.{IsCampaignAnswer, IsDriveAnswer, IsJudgeAnswer}
+use Rattle.pst_cli.specs.Commands.{IsCampaignAnswer, IsDriveAnswer, IsJudgeAnswer, IsMeant}
 use Rattle.pst_cli.specs.GenerateOutput.{form_beside}
 use Rattle.pst_cli.specs.Status.{or_worse}
 use Rattle.pst_cli.specs.declared.answer.Destinations.{Destinations}
@@ -18,6 +18,7 @@ use Rattle.pst_cli.specs.declared.answer.Status.{Status}
 use Rattle.pst_cli.specs.declared.answer.Status.TheVariants.{Accepted, Failed, Refused, Lost}
 use Rattle.pst_cli.specs.declared.drive.DriveOptions.{DriveOptions}
 use Rattle.pst_cli.specs.declared.judge.JudgeOptions.{JudgeOptions}
+use Rattle.pst_input.specs.Meaning.{Means}
 use Rattle.pst_system.specs.Kept.{Answers, Fails, ResetFails}
 use Rattle.pst_trial.specs.declared.plan.Settings.{Settings}
 
@@ -66,39 +67,39 @@ module _ {S : Type 0} {answers : S → Answers} {fails : S → Fails} {reset_fai
     {F W : Type 0} {f_taken : F → Option (List ℕ)} {f_broken : F → Bool} {w_taken : W → Option (List ℕ)} {w_broken : W → Bool}
     {input : List ℕ} {old new : Destinations F W} {status : Status} where
   pub ends_by_input : {c : Subcommand} (command : InputCommand) → subcommand_of command ≡ c
-      → Reaches (memory_text command) (IsInputAnswer command input) (Delivers f_taken f_broken w_taken w_broken old new status)
+      → Reaches (memory_text command) (IsMeant (IsInputAnswer command) input) (Delivers f_taken f_broken w_taken w_broken old new status)
       → EndsWith answers fails reset_fails systems may_end f_taken f_broken w_taken w_broken input c old new status
   ends_by_input {c} command is r =
-      let At : List ℕ → Type 0 = λ memory. Reaches memory (IsInputAnswer command input) (Delivers f_taken f_broken w_taken w_broken old new status) in
-      answers_so (form_of command) status Accepted (widen (λ text s p. of_input command is p) (subst At (memory_is command) r))
+      let At : List ℕ → Type 0 = λ memory. Reaches memory (IsMeant (IsInputAnswer command) input) (Delivers f_taken f_broken w_taken w_broken old new status) in
+      answers_so (form_of command) status Accepted (widen (λ text s p. (p.0, p.1, of_input command is p.2)) (subst At (memory_is command) r))
       (worse_than_best status)
 
   pub ends_by_items : {c : Subcommand} (options : JudgeOptions) → c ≡ Judge
-      → Reaches (memory_of options.form) (IsJudgeAnswer options input) (Delivers f_taken f_broken w_taken w_broken old new status)
+      → Reaches (memory_of options.form) (IsMeant (IsJudgeAnswer options) input) (Delivers f_taken f_broken w_taken w_broken old new status)
       → EndsWith answers fails reset_fails systems may_end f_taken f_broken w_taken w_broken input c old new status
   ends_by_items options is r =
-      answers_so options.form status Accepted (widen (λ text s p. of_items options is p) r) (worse_than_best status)
+      answers_so options.form status Accepted (widen (λ text s p. (p.0, p.1, of_items options is p.2)) r) (worse_than_best status)
 
-  pub ends_by_drives : (options : DriveOptions) (all others : List S) (system : S) → systems ≡ all → all ≡ others ++ system ∷ []
-      → Reaches (memory_of options.form) (IsDriveAnswer options (answers system) (fails system) (reset_fails system) input)
+  pub ends_by_drives : (plain : List ℕ) → Means input plain → (options : DriveOptions) (all others : List S) (system : S) → systems ≡ all → all ≡ others ++ system ∷ []
+      → Reaches (memory_of options.form) (IsDriveAnswer options (answers system) (fails system) (reset_fails system) plain)
       (Delivers f_taken f_broken w_taken w_broken old new status)
       → EndsWith answers fails reset_fails systems may_end f_taken f_broken w_taken w_broken input Run old new status
-  ends_by_drives options all others system made is r =
+  ends_by_drives plain means options all others system made is r =
       let Is : List S → Type 0 = λ ss. systems ≡ ss in
-      answers_so options.form status Accepted (widen (λ text s p. of_drives options others system refl (subst Is is made) p) r)
+      answers_so options.form status Accepted (widen (λ text s p. (plain, means, of_drives options others system refl (subst Is is made) p)) r)
       (worse_than_best status)
 
-  pub ends_by_trials : (form : OutputForm) (most : Option ℕ) (settings : Settings) (all : List S) (sent beside : Status) → systems ≡ all
+  pub ends_by_trials : (plain : List ℕ) → Means input plain → (form : OutputForm) (most : Option ℕ) (settings : Settings) (all : List S) (sent beside : Status) → systems ≡ all
       → Reaches (memory_of form)
-      (IsCampaignAnswer form (IsSome most ⊎ may_end) (λ s. MayGive (answers s) (fails s) (reset_fails s)) settings all input)
+      (IsCampaignAnswer form (IsSome most ⊎ may_end) (λ s. MayGive (answers s) (fails s) (reset_fails s)) settings all plain)
       (Delivers f_taken f_broken w_taken w_broken old new sent)
       → status ≡ or_worse sent beside
       → EndsWith answers fails reset_fails systems may_end f_taken f_broken w_taken w_broken input Campaign old new status
-  ends_by_trials form most settings all sent beside made r is =
+  ends_by_trials plain means form most settings all sent beside made r is =
       let At : List S → Type 0 = λ ss. Reaches (memory_of form)
-      (IsCampaignAnswer form (IsSome most ⊎ may_end) (λ s. MayGive (answers s) (fails s) (reset_fails s)) settings ss input)
+      (IsCampaignAnswer form (IsSome most ⊎ may_end) (λ s. MayGive (answers s) (fails s) (reset_fails s)) settings ss plain)
       (Delivers f_taken f_broken w_taken w_broken old new sent) in
-      answers_so form sent beside (widen (λ text s p. of_trials form most settings refl p) (subst At (sym made) r)) is
+      answers_so form sent beside (widen (λ text s p. (plain, means, of_trials form most settings refl p)) (subst At (sym made) r)) is
 
   pub ends_by_refusal : {c : Subcommand} → Refuses f_taken f_broken w_taken w_broken old new status
       → EndsWith answers fails reset_fails systems may_end f_taken f_broken w_taken w_broken input c old new status

@@ -10,7 +10,7 @@ use Rattle.pst.specs.declared.subcommands.Subcommand.TheVariants as subcommand
 use Rattle.pst_campaign.specs.Entries.{MayGive}
 use Rattle.pst_cli.specs.Absent.{absence_line, absence_status}
 use Rattle.pst_cli.specs.Answering.{Delivers, Reaches, memory_of}
-use Rattle.pst_cli.specs.Commands.{IsCampaignAnswer, IsDriveAnswer, IsJudgeAnswer}
+use Rattle.pst_cli.specs.Commands.{IsCampaignAnswer, IsDriveAnswer, IsJudgeAnswer, IsMeant}
 use Rattle.pst_cli.specs.Status.{or_worse}
 use Rattle.pst_cli.specs.declared.absent.Absence.{Absence}
 use Rattle.pst_cli.specs.declared.answer.Destinations.{Destinations}
@@ -44,19 +44,19 @@ Refuses f_taken f_broken w_taken w_broken old new status =
 
 -- what a system may answer and fail with, the systems in their order, and whether a campaign may be ended by a signal
 module _ {S : Type 0} (answers : S → Answers) (fails : S → Fails) (reset_fails : S → ResetFails) (systems : List S) (may_end : Type 0) where
-  -- the output of a subcommand for an input, with some options; `run` drives the last system
-  pub data IsOutputOf (input : List ℕ) (c : Subcommand) (text : List ℕ) (status : Status) : Type 0 where
-    of_input : (command : InputCommand) → subcommand_of command ≡ c → IsInputAnswer command input text status
-        → IsOutputOf input c text status
-    of_items : (options : JudgeOptions) → c ≡ subcommand.Judge → IsJudgeAnswer options input text status
-        → IsOutputOf input c text status
+  -- the output of a subcommand for the plain text of an input, with some options; `run` drives the last system
+  pub data IsOutputOf (plain : List ℕ) (c : Subcommand) (text : List ℕ) (status : Status) : Type 0 where
+    of_input : (command : InputCommand) → subcommand_of command ≡ c → IsInputAnswer command plain text status
+        → IsOutputOf plain c text status
+    of_items : (options : JudgeOptions) → c ≡ subcommand.Judge → IsJudgeAnswer options plain text status
+        → IsOutputOf plain c text status
     of_drives : (options : DriveOptions) (others : List S) (system : S) → c ≡ subcommand.Run → systems ≡ others ++ system ∷ []
-        → IsDriveAnswer options (answers system) (fails system) (reset_fails system) input text status
-        → IsOutputOf input c text status
+        → IsDriveAnswer options (answers system) (fails system) (reset_fails system) plain text status
+        → IsOutputOf plain c text status
     of_trials : (form : OutputForm) (most : Option ℕ) (settings : Settings) → c ≡ subcommand.Campaign
         → IsCampaignAnswer form (IsSome most ⊎ may_end) (λ s. MayGive (answers s) (fails s) (reset_fails s)) settings systems
-        input text status
-        → IsOutputOf input c text status
+        plain text status
+        → IsOutputOf plain c text status
 
   module _ {F W : Type 0} (f_taken : F → Option (List ℕ)) (f_broken : F → Bool) (w_taken : W → Option (List ℕ)) (w_broken : W → Bool)
       (input : List ℕ) (c : Subcommand) (old new : Destinations F W) (status : Status) where
@@ -64,7 +64,7 @@ module _ {S : Type 0} (answers : S → Answers) (fails : S → Fails) (reset_fai
     -- with; or it sends nothing, and its status is no verdict
     pub data EndsWith : Type 0 where
       answers_so : (form : OutputForm) (sent beside : Status)
-          → Reaches (memory_of form) (IsOutputOf input c) (Delivers f_taken f_broken w_taken w_broken old new sent)
+          → Reaches (memory_of form) (IsMeant (λ plain. IsOutputOf plain c) input) (Delivers f_taken f_broken w_taken w_broken old new sent)
           → status ≡ or_worse sent beside → EndsWith
       refuses_so : Refuses f_taken f_broken w_taken w_broken old new status → EndsWith
       sends_nothing : new ≡ old → (status ≡ Refused) ⊎ (status ≡ Lost) → EndsWith

@@ -2,12 +2,14 @@
 ghost use Rattle.pst.specs.Answering.{HasTrials, IsInputAnswer, memory_text};
 ghost use Rattle.pst.specs.Endings.{Refuses};
 ghost use Rattle.pst_cli.specs.Answering.{Delivers, Reaches, Stands};
+ghost use Rattle.pst_cli.specs.Commands.{IsMeant};
 
 use crate::item_progress::ProgressDisplay;
 use pst_cli::{
     Absence, CallOrder, Destinations, ExplainOptions, ItemForm, OutputForm, Status, check_model,
     convert_items, draw_item, explain_items, generate_cases, list_model, refuse,
 };
+use pst_input::InputText;
 use pst_sexpr::Sink;
 use pst_trial::Settings;
 use std::sync::Wait;
@@ -59,10 +61,10 @@ pub fn answer_input_command<
     F: Sink,
     W: Sink,
     R: Threads + Wait + Sync + Eprint + AllocGlobal + Copy + Drop + Send + 'static,
->(rt: &R, command: InputCommand<'_>, input: &[u8], to: &mut Destinations<F, W>) -> Status
+>(rt: &R, command: InputCommand<'_>, input: &InputText<'_>, to: &mut Destinations<F, W>) -> Status
     requires trials { HasTrials command }
     requires stands { Stands F.broken W.broken to.old }
-    ensures { Reaches (memory_text command.entry) (IsInputAnswer command.entry input.now)
+    ensures { Reaches (memory_text command.entry) (IsMeant (IsInputAnswer command.entry) input.now)
         (Delivers F.taken F.broken W.taken W.broken to.old to.new result) }
 {
     let alloc = rt.alloc();

@@ -72,7 +72,7 @@ pub fn refuse_excess<R: Files + Eprint + AllocGlobal>(
     if clients == 0 || clients == MAX_BRANCHES {
         return Ok(());
     }
-    let input = prepared.input_with_items_as_trees().bytes;
+    let input = prepared.input.plain();
     let Some((item, branches)) = first_excess(rt.alloc(), input, clients) else {
         return Ok(());
     };

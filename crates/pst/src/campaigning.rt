@@ -20,6 +20,7 @@ use pst_campaign::{EarlyStop, Signal};
 use pst_cli::{
     Absence, CampaignEnd, Destinations, KnownSystem, OutputForm, Status, report_campaign,
 };
+use pst_input::InputText;
 use pst_sexpr::Sink;
 use pst_sources::Input;
 use pst_system::{BoxedSystem, System};
@@ -189,13 +190,13 @@ pub fn run_campaign_subcommand<
     rt: &R,
     context: SubcommandContext<'_, '_>,
     systems: SystemsResult,
-    input: Input<'_>,
+    input: &InputText<'_>,
     to: &mut Destinations<F, W>,
 ) -> Status
     requires { Stands F.broken W.broken to.old }
     ensures { EndsWith (λ s. (System-box s).answers s.value) (λ s. (System-box s).fails s.value)
         (λ s. (System-box s).reset_fails s.value) (made systems) (IsSome context.entry.signal.is_set)
-        F.taken F.broken W.taken W.broken input.entry.bytes.now subcommand.Campaign to.old to.new result }
+        F.taken F.broken W.taken W.broken input.now subcommand.Campaign to.old to.new result }
 {
     let arguments = context.arguments;
     let name = system_name_from_arguments_or_empty(arguments);
@@ -228,7 +229,7 @@ pub fn run_campaign_subcommand<
         sample: KnownSystem::named(name),
         page: arguments.get_str("html"),
         saver: saver.as_ref(),
-        input,
+        input: input.plain_input(),
         line_width: context.line_width,
     };
     let (status, others) = run_campaign_with_messages(rt, settings, systems, options, signal, to);

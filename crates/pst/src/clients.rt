@@ -47,7 +47,7 @@ pub fn open_boxed_clients_for_worker<H: Wait + Files + Drop, R: Files + AllocGlo
     worker: u64,
     prepared: &PreparedInput<'_>,
 ) -> Result<Box<Clients<H, BufReader<R::File>, CallPipe<R::File>>>, SystemsError> {
-    let input = prepared.input_with_items_as_trees().bytes;
+    let input = prepared.input.plain();
     let (Ok(types), Ok(notes)) = (
         operation_result_types_if_model_loads(rt.alloc(), input),
         Arc::try_clone(&prepared.notes),

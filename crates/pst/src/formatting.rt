@@ -1,10 +1,11 @@
 //! The commands that rewrite files: `pst fmt` in one layout, `pst convert` in the form of JSON or trees.
 
 use crate::input::{self, InputOptions, STANDARD_INPUT};
-use crate::{diagnostics, help, json_items, outputs, subcommands};
+use crate::{diagnostics, help, outputs, subcommands};
 use clap::builder::ValueParser;
 use clap::{Arg, ArgAction, ArgMatches, Command};
 use pst_cli::{ItemForm, Status, refuse_text};
+use pst_input::{find_first_line_like_json_item, text_before, text_with_json_items_blanked};
 use pst_messages::{MessageScope, input_error_messages_text};
 use pst_print::format_file;
 use pst_sexpr::{FaultKind, MAX_BYTES, Out, SexprFault, read};
@@ -206,9 +207,10 @@ fn json_blanked_text_or_malformed_beginning(
     alloc: Global,
     bytes: &[u8],
 ) -> Result<Vec<u8>, AllocError> {
-    let head = json_items::text_before_json_items(bytes);
+    let place = find_first_line_like_json_item(bytes).unwrap_or(bytes.len());
+    let head = text_before(bytes, place);
     match read(alloc, head) {
-        Ok(_) => json_items::text_with_json_items_blanked(alloc, bytes),
+        Ok(_) => text_with_json_items_blanked(alloc, bytes),
         Err(_) => Vec::from_slice(alloc, head),
     }
 }
@@ -266,7 +268,7 @@ fn format_or_check_file_by_name<R: Runtime + AllocGlobal>(
         return Status::Accepted;
     };
     let bytes = file.bytes.as_slice();
-    if json_items::has_json_items(bytes) {
+    if find_first_line_like_json_item(bytes).is_some() {
         return keep_or_refuse_file_with_json_items(rt, file, options);
     }
     match format_file(rt.alloc(), bytes) {

@@ -1,7 +1,7 @@
 //! `pst judge`, with messages on standard error.
 ghost use Rattle.std.specs.Prelude.{All};
 ghost use Rattle.pst_cli.specs.Answering.{Delivers, Reaches, Stands, memory_of};
-ghost use Rattle.pst_cli.specs.Commands.{IsJudgeAnswer, IsJudgedInput};
+ghost use Rattle.pst_cli.specs.Commands.{IsJudgeAnswer, IsJudgedInput, IsMeant, IsMeantOf};
 ghost use Rattle.pst_runs.specs.Lawful.{AreLawful};
 
 use crate::item_progress::ProgressDisplay;
@@ -11,6 +11,7 @@ use pst_cli::{
     Attendant, Destinations, FileWithItemResults, ItemResultCounts, JudgeOptions, JudgedFile,
     Judging, Shown, Status, count_items_of_input, judge_items,
 };
+use pst_input::InputText;
 use pst_messages::{
     ItemInput, first_broken_item_result_and_count_message, first_broken_run_and_count_message,
     precondition_warnings_on_item_results, precondition_warnings_on_runs,
@@ -95,12 +96,16 @@ fn print_messages_on_item_results<R: Eprint>(
 fn count_and_print_messages<R: Eprint>(
     rt: &R,
     alloc: Global,
-    input: ItemInput<'_>,
+    input: &InputText<'_>,
     counts: &mut ItemResultCounts,
     judging: Judging,
 )
-    requires { IsJudgedInput input.trees.bytes.now judging }
+    requires { IsMeantOf IsJudgedInput input.now judging }
 {
+    let input = ItemInput {
+        trees: input.plain_input(),
+        read: input.files(),
+    };
     match judging {
         Judging::UpToRefusal(file) => {
             counts.add_judged_items(file.judged.as_slice());
@@ -139,21 +144,20 @@ pub fn judge_with_messages<
     options: JudgeOptions,
     is_quiet: bool,
     has_progress_line: bool,
-    input: ItemInput<'_>,
+    input: &InputText<'_>,
     counts: &mut ItemResultCounts,
     to: &mut Destinations<F, W>,
 ) -> Status
     requires { Stands F.broken W.broken to.old }
-    ensures { Reaches (memory_of options.form) (IsJudgeAnswer options input.entry.trees.bytes.now)
+    ensures { Reaches (memory_of options.form) (IsMeant (IsJudgeAnswer options) input.now)
         (Delivers F.taken F.broken W.taken W.broken to.old to.new result) }
 {
     let alloc = rt.alloc();
-    let bytes = input.trees.bytes;
     let mut display = ProgressDisplay::of_items(rt, alloc, has_progress_line, "judged");
-    if has_progress_line && let Ok(count) = count_items_of_input(alloc, bytes) {
+    if has_progress_line && let Ok(count) = count_items_of_input(alloc, input.plain()) {
         display.steps().restart_with_total(count);
     }
-    let (status, judging) = judge_items(rt, alloc, bytes, options, &mut display, to);
+    let (status, judging) = judge_items(rt, alloc, input, options, &mut display, to);
     if !is_quiet && let Some(judging) = judging {
         count_and_print_messages(rt, alloc, input, counts, judging);
     }

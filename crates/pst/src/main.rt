@@ -16,7 +16,6 @@ mod generating;
 mod help;
 mod input;
 mod item_progress;
-mod json_items;
 mod judging;
 mod line_messages;
 mod outputs;

@@ -7,14 +7,14 @@ use crate::stop_signals::StopFlag;
 use crate::subcommands::Subcommand;
 use crate::terminal::Terminals;
 use crate::{
-    branches, diagnostics, formatting, generating, input, json_items, outputs, page, saving,
-    streaming, systems,
+    branches, diagnostics, formatting, generating, input, outputs, page, saving, streaming, systems,
 };
 use clap::ArgMatches;
 use pst_cli::{Status, refuse_text};
 use pst_driver::Misfits;
+use pst_input::InputText;
 use pst_sexpr::Out;
-use pst_sources::{Input, SourceFile, joined_text_of_files};
+use pst_sources::SourceFile;
 use std::alloc::{AllocError, Global};
 use std::io;
 use std::rt::Runtime;
@@ -22,12 +22,8 @@ use std::rt::Runtime;
 /// The input of a command, the notes of its clients, and the misfits of its systems.
 #[derive(Drop)]
 pub struct PreparedInput<'a> {
-    /// The files as they were read.
-    pub read: Vec<SourceFile<'a>>,
-    /// The files with a tree in place of each JSON item, if there is one.
-    trees: Option<Vec<SourceFile<'a>>>,
-    /// The text of the files, with a tree in place of each JSON item.
-    text: Vec<u8>,
+    /// The input.
+    pub input: InputText<'a>,
     /// The notes of all clients.
     pub notes: SharedClientNotes,
     /// The list of answers of a wrong type, if it is kept.
@@ -41,32 +37,17 @@ impl<'a> PreparedInput<'a> {
         matches: &ArgMatches<'_>,
         read: Vec<SourceFile<'a>>,
     ) -> Result<PreparedInput<'a>, AllocError> {
-        let trees = json_items::source_files_with_json_replaced_or_removed(alloc, read.as_slice())?;
-        let text = match &trees {
-            Some(trees) => joined_text_of_files(alloc, trees.as_slice())?,
-            None => joined_text_of_files(alloc, read.as_slice())?,
+        let input = match InputText::of_files(alloc, read) {
+            Ok(input) => input,
+            Err(AllocError) => return Err(AllocError),
         };
         let notes = new_client_notes(alloc)?;
         let misfits = new_misfit_list_for_run_unless_quiet(alloc, matches);
         Ok(PreparedInput {
-            read,
-            trees,
-            text,
+            input,
             notes,
             misfits,
         })
-    }
-
-    /// The input with a tree in place of each JSON item.
-    pub fn input_with_items_as_trees(&self) -> Input<'_> {
-        let files = match &self.trees {
-            Some(trees) => trees.as_slice(),
-            None => self.read.as_slice(),
-        };
-        Input {
-            files,
-            bytes: self.text.as_slice(),
-        }
     }
 }
 

@@ -4,7 +4,7 @@ ghost use Rattle.pst.specs.Answering.{HasTrials};
 ghost use Rattle.pst.specs.Endings.{EndsWith, made, subcommand_of};
 ghost use Rattle.pst.specs.declared.subcommands.Subcommand.TheVariants as subcommand;
 ghost use Rattle.pst_cli.specs.Answering.{Delivers, Reaches, Stands, memory_of};
-ghost use Rattle.pst_cli.specs.Commands.{IsJudgeAnswer};
+ghost use Rattle.pst_cli.specs.Commands.{IsJudgeAnswer, IsMeant};
 ghost use Rattle.pst_cli.specs.declared.judge.JudgeOptions.{JudgeOptions};
 
 use crate::answering::{InputCommand, answer_input_command, refuse_absent};
@@ -24,7 +24,7 @@ use crate::terminal::{Terminals, line_width_of_environment_or_default};
 use crate::{clients, diagnostics, driving, formatting, judging, stop_signals, streaming, summary};
 use clap::ArgMatches;
 use pst_cli::{Absence, Destinations, ItemResultCounts, Status};
-use pst_messages::ItemInput;
+use pst_input::InputText;
 use pst_sexpr::{Out, Sink};
 use pst_sources::{Input, SourceFile};
 use pst_system::BoxedSystem;
@@ -67,7 +67,7 @@ fn drive_on_last_system<
 >(
     rt: &R,
     context: SubcommandContext<'_, '_>,
-    input: Input<'_>,
+    input: &InputText<'_>,
     systems: SystemsResult,
     counts: &mut ItemResultCounts,
     to: &mut Destinations<F, W>,
@@ -75,7 +75,7 @@ fn drive_on_last_system<
     requires { Stands F.broken W.broken to.old }
     ensures { EndsWith (λ s. (System-box s).answers s.value) (λ s. (System-box s).fails s.value)
         (λ s. (System-box s).reset_fails s.value) (made systems) (IsSome context.entry.signal.is_set)
-        F.taken F.broken W.taken W.broken input.entry.bytes.now subcommand.Run to.old to.new result }
+        F.taken F.broken W.taken W.broken input.now subcommand.Run to.old to.new result }
 {
     let arguments = context.arguments;
     let name = system_name_from_arguments_or_empty(arguments);
@@ -87,7 +87,7 @@ fn drive_on_last_system<
         return refuse_absent(Absence::NoSystem(name), to);
     };
     let options = driving::drive_options_from_arguments(arguments);
-    driving::drive_with_messages(rt, options, context, &mut system, input.bytes, counts, to)
+    driving::drive_with_messages(rt, options, context, &mut system, input.plain(), counts, to)
 }
 
 /// Returns the command that the arguments choose, if it needs nothing but its input. `notices` are part of the output of `check`.
@@ -127,19 +127,17 @@ fn judge_items_of_files<
 >(
     rt: &R,
     context: SubcommandContext<'_, '_>,
-    trees: Input<'_>,
+    input: &InputText<'_>,
     counts: &mut ItemResultCounts,
     to: &mut Destinations<F, W>,
 ) -> Status
     requires { Stands F.broken W.broken to.old }
-    ensures { (options : JudgeOptions) × Reaches (memory_of options.form) (IsJudgeAnswer options trees.entry.bytes.now)
+    ensures { (options : JudgeOptions) × Reaches (memory_of options.form) (IsMeant (IsJudgeAnswer options) input.now)
         (Delivers F.taken F.broken W.taken W.broken to.old to.new result) }
 {
     let options = judging::judge_options_from_arguments(context.arguments);
     let is_quiet = context.arguments.get_flag("quiet");
     let has_progress_line = context.terminals.errors && !is_quiet;
-    let read = context.files;
-    let input = ItemInput { trees, read };
     judging::judge_with_messages(rt, options, is_quiet, has_progress_line, input, counts, to)
 }
 
@@ -152,7 +150,7 @@ fn run_subcommand<
 >(
     rt: &R,
     context: SubcommandContext<'_, '_>,
-    input: Input<'_>,
+    input: &InputText<'_>,
     systems: SystemsResult,
     counts: &mut ItemResultCounts,
     to: &mut Destinations<F, W>,
@@ -160,7 +158,7 @@ fn run_subcommand<
     requires { Stands F.broken W.broken to.old }
     ensures { EndsWith (λ s. (System-box s).answers s.value) (λ s. (System-box s).fails s.value)
         (λ s. (System-box s).reset_fails s.value) (made systems) (IsSome context.entry.signal.is_set)
-        F.taken F.broken W.taken W.broken input.entry.bytes.now context.entry.subcommand to.old to.new result }
+        F.taken F.broken W.taken W.broken input.now context.entry.subcommand to.old to.new result }
 {
     let SubcommandContext {
         subcommand,
@@ -168,17 +166,18 @@ fn run_subcommand<
         terminals,
         ..
     } = context;
-    let notices = diagnostics::notices_in_check_output(rt.alloc(), context.matches, &input);
+    let plain = input.plain_input();
+    let notices = diagnostics::notices_in_check_output(rt.alloc(), context.matches, &plain);
     let notices = notices.as_slice();
     if let Some(command) = input_command_from_arguments(
         rt,
         subcommand,
         arguments,
         terminals,
-        input.files,
+        plain.files,
         notices,
     ) {
-        return answer_input_command(rt, command, input.bytes, to);
+        return answer_input_command(rt, command, input, to);
     }
     match subcommand {
         Subcommand::Judge => judge_items_of_files(rt, context, input, counts, to),
@@ -196,7 +195,7 @@ fn judge_stream_or_run_subcommand<
 >(
     rt: &R,
     context: SubcommandContext<'_, '_>,
-    input: Input<'_>,
+    input: &InputText<'_>,
     systems: SystemsResult,
     counts: &mut ItemResultCounts,
     to: &mut Destinations<F, W>,
@@ -210,7 +209,7 @@ fn judge_stream_or_run_subcommand<
         rt,
         context.arguments,
         context.terminals,
-        input.bytes,
+        input.plain(),
         counts,
         to,
     )
@@ -259,7 +258,12 @@ fn print_outcome_messages_unless_quiet<R: Eprint + AllocGlobal>(
 /// standard error follow; their last line sums up the items of `judge` and `run`.
 fn run_subcommand_to_chosen_output<
     R: Runtime + AllocGlobal + Threads + Wait + Sync + Copy + Drop + Send + 'static,
->(rt: &R, context: SubcommandContext<'_, '_>, input: Input<'_>, systems: SystemsResult) -> Status {
+>(
+    rt: &R,
+    context: SubcommandContext<'_, '_>,
+    input: &InputText<'_>,
+    systems: SystemsResult,
+) -> Status {
     let mut to = Destinations {
         file: None,
         out: Out::new(WriteErrorKeeper::new(io::writer(rt))),
@@ -280,7 +284,7 @@ fn run_subcommand_to_chosen_output<
     }
     let mut counts = ItemResultCounts::new();
     let status = judge_stream_or_run_subcommand(rt, context, input, systems, &mut counts, &mut to);
-    print_outcome_messages_unless_quiet(rt, context, input, status, &counts);
+    print_outcome_messages_unless_quiet(rt, context, input.plain_input(), status, &counts);
     let Destinations { file, out } = to;
     let (_, failure) = writer_and_error_if_failed(out);
     let status = status_after_reporting_output_failure(rt, status, None, failure);
@@ -315,7 +319,7 @@ fn run_subcommand_while_watching_clients<
         subcommand,
         matches,
         arguments,
-        files: prepared.read.as_slice(),
+        files: prepared.input.files(),
         misfits: prepared.misfits.as_deref(),
         signal,
         terminals: if is_in_file {
@@ -326,8 +330,7 @@ fn run_subcommand_while_watching_clients<
         line_width: line_width_of_environment_or_default(&rt),
     };
     let watch = clients::start_client_watch_unless_quiet(&rt, rt.alloc(), matches, &prepared.notes);
-    let input = prepared.input_with_items_as_trees();
-    let status = run_subcommand_to_chosen_output(&rt, context, input, systems);
+    let status = run_subcommand_to_chosen_output(&rt, context, &prepared.input, systems);
     if let Some(watch) = watch {
         watch.end_and_wait(&rt);
     }

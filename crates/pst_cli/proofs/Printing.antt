@@ -1,13 +1,15 @@
 -- An answer that is sent is printed, and one that is delivered reaches its place.
-use Rattle.std.proofs.Common.{◌≡◌, inl, inr, ℕ, Bool, true, false, List, Option, Some, None, Result, Ok, Err, IfOk, refl, sym, subst}
+use Rattle.std.proofs.Common.{◌≡◌, ⊎_elim, inl, inr, ℕ, Bool, true, false, List, Option, Some, None, Result, Ok, Err, IfOk, IfSome, refl, sym, subst}
 use Rattle.std.specs.declared.alloc.AllocError.{AllocError}
 use Rattle.pst_cli.specs.Answering.{Delivers, FileTakes, Reaches, refuses, sent_status, sent_text, to_file, to_out}
 use Rattle.pst_cli.specs.Answers.{Answers, IsRefusalBy}
+use Rattle.pst_cli.specs.Commands.{IsMeant, IsMeantOf, OutputOf}
 use Rattle.pst_cli.specs.Sending.{Prints, Sends, SendsOne, memory_line}
 use Rattle.pst_cli.specs.declared.answer.Answer.{Answer}
 use Rattle.pst_cli.specs.declared.answer.Destinations.{Destinations}
 use Rattle.pst_cli.specs.declared.answer.Status.{Status}
 use Rattle.pst_cli.specs.declared.answer.Status.TheVariants.{Refused, Lost}
+use Rattle.pst_input.specs.Meaning.{Means}
 
 -- an answer that was sent to one sink
 pub prints : (IsOutput : List ℕ → Status → Type 0) (before after : Option (List ℕ)) (broken : Bool) (answer : Status)
@@ -36,6 +38,24 @@ reaches memory IsOutput Goes (Err e) is s = record {
   refusing = λ _. inr refl;
   sent = s;
 }
+
+-- what reaches its place for the plain text that an input means
+pub meant : (memory : List ℕ) (IsOutput : OutputOf) (Goes : Bool → List ℕ → Status → Type 0) (input plain : List ℕ) → Means input plain
+    → Reaches memory (IsOutput plain) Goes → Reaches memory (IsMeant IsOutput input) Goes
+meant memory IsOutput Goes input plain means r = record {
+  text = r.text;
+  status = r.status;
+  refuses = r.refuses;
+  lawful = ⊎_elim (λ is. inl (plain, means, is)) (λ lost. inr lost) r.lawful;
+  refusing = r.refusing;
+  sent = r.sent;
+}
+
+-- what is returned, if anything is, by the plain text that an input means
+pub some_meant : {A : Type 0} (Holds : List ℕ → A → Type 0) (input plain : List ℕ) → Means input plain → (of : Option A)
+    → IfSome of (Holds plain) → IfSome of (IsMeantOf Holds input)
+some_meant Holds input plain means (Some a) holds = (plain, means, holds)
+some_meant Holds input plain means None holds = holds
 
 -- the refusal of the whole input
 pub refuses_so : (IsOutput : List ℕ → Status → Type 0) (text : List ℕ) (a : Answer) → IsRefusalBy text Refused a

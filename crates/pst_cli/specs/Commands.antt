@@ -15,6 +15,7 @@ use Rattle.pst_cli.specs.declared.judge.JudgeOptions.{JudgeOptions}
 use Rattle.pst_cli.specs.declared.judge.Judging.{Judging}
 use Rattle.pst_cli.specs.declared.judge.Judging.TheVariants as judging
 use Rattle.pst_cli.specs.declared.lines.Shown.{Shown}
+use Rattle.pst_input.specs.Meaning.{Means}
 use Rattle.pst_judge.specs.declared.by_order.CallOrder.{CallOrder}
 use Rattle.pst_rejudge.specs.Parts.{joined}
 use Rattle.pst_runs.specs.Lawful.{AreLawful}
@@ -24,6 +25,14 @@ use Rattle.pst_trial.specs.declared.plan.Settings.{Settings}
 -- an output for an input
 abbrev pub OutputOf : Type 1
 OutputOf = List ℕ → List ℕ → Status → Type 0
+
+-- an output for the plain text that the input means
+abbrev pub IsMeant : OutputOf → OutputOf
+IsMeant IsOutput input text status = (plain : List ℕ) × Means input plain × IsOutput plain text status
+
+-- a fact holds of the plain text that the input means
+abbrev pub IsMeantOf : {A : Type 0} → (List ℕ → A → Type 0) → List ℕ → A → Type 0
+IsMeantOf Holds input of = (plain : List ℕ) × Means input plain × Holds plain of
 
 -- ---- `pst check`
 

@@ -1,5 +1,6 @@
 //! `pst explain`: which items it explains, and what it writes for them or for an item that does not exist.
 ghost use Rattle.std.specs.Prelude.{◌≡◌, false, IfOk, IsTrue, ◌↔◌, string_bytes};
+ghost use Rattle.pst_cli.specs.Commands.{IsMeant};
 ghost use Rattle.pst_cli.specs.ExplainOutput.{IsExplainOutput, IsExplanation};
 ghost use Rattle.pst_cli.specs.Output.{AreJudged};
 ghost use Rattle.pst_cli.specs.Answering.{Delivers, Reaches, Stands};
@@ -18,6 +19,7 @@ use crate::judge::{is_explained_or_valid, status_of_judgements};
 use pst_case::Run;
 use pst_compile::Compiled;
 use pst_explain::{TreePlace, explain_item, graphviz_text_of_item_search, tree_places_in_input};
+use pst_input::InputText;
 use pst_judge::{CallOrder, Judge, Judged};
 use pst_rejudge::ProgressCounter;
 use pst_sexpr::Sink;
@@ -210,16 +212,16 @@ pub fn explain_text<W: Sink, R: Threads + Sync>(
 pub fn explain_items<F: Sink, W: Sink, R: Threads + Sync, A: Attendant>(
     rt: &R,
     alloc: Global,
-    input: &[u8],
+    input: &InputText<'_>,
     options: ExplainOptions<'_>,
     attendant: &mut A,
     to: &mut Destinations<F, W>,
 ) -> Status
     requires stands { Stands F.broken W.broken to.old }
-    ensures prints { Reaches memory_line (IsExplainOutput options.entry.order input.now options.entry.chosen)
+    ensures prints { Reaches memory_line (IsMeant (λ plain. IsExplainOutput options.entry.order plain options.entry.chosen) input.now)
         (Delivers F.taken F.broken W.taken W.broken to.old to.new result) }
 {
-    let answer = explain_answer(rt, alloc, input, options, attendant.steps());
+    let answer = explain_answer(rt, alloc, input.plain(), options, attendant.steps());
     attendant.before_output();
     deliver(&answer, MEMORY_LINE, to)
 }

@@ -2,6 +2,7 @@
 ghost use Rattle.std.specs.Prelude.{◌≡◌, ◌≤◌, ◌<◌, ◌+◌, ◌^◌, ◌-◌, ℕ, List, false, IfOk, MatchResult, string_bytes};
 ghost use Rattle.std.specs.List.{AllZip, range_with_len};
 ghost use Rattle.pst_cli.specs.Answering.{Delivers, Reaches, Stands};
+ghost use Rattle.pst_cli.specs.Commands.{IsMeant};
 ghost use Rattle.pst_cli.specs.Generating.{EndsCases, EndsLines, IsLineOf, IsPlanOf};
 ghost use Rattle.pst_cli.specs.GenerateOutput.{IsGenerateOutput, fault_line, form_beside, genfault_fields, genfault_line, memory_in};
 ghost use Rattle.pst_cli.specs.Sending.{SendsOne};
@@ -18,6 +19,7 @@ use crate::model_commands::{ItemForm, item_line_in_form};
 use crate::stream::Cut;
 use pst_case::Run;
 use pst_eval::FaultPlace;
+use pst_input::InputText;
 use pst_rejudge::{Field, FieldName, add_number_field, add_text_field, json_object_line};
 use pst_sexpr::{Sink, WriteFailed, put_all};
 use pst_trial::{Plan, Settings, generate_trial_case, prove_records_are_send_and_sync};
@@ -266,7 +268,7 @@ fn plan_of_input(
 pub fn generate_cases<F: Sink, W: Sink, R: Threads + Sync>(
     rt: &R,
     alloc: Global,
-    input: &[u8],
+    input: &InputText<'_>,
     form: ItemForm,
     settings: Settings,
     first: u64,
@@ -276,11 +278,11 @@ pub fn generate_cases<F: Sink, W: Sink, R: Threads + Sync>(
     requires ranges { AreInRange settings }
     requires numbers { first + count < 2 ^ 64 }
     requires stands { Stands F.broken W.broken to.old }
-    ensures prints { Reaches (memory_in form) (IsGenerateOutput form settings first count input.now)
+    ensures prints { Reaches (memory_in form) (IsMeant (IsGenerateOutput form settings first count) input.now)
         (Delivers F.taken F.broken W.taken W.broken to.old to.new result) }
 {
     let memory = memory_text(form.form_beside());
-    let plan = match plan_of_input(alloc, input, settings) {
+    let plan = match plan_of_input(alloc, input.plain(), settings) {
         Ok(Ok(plan)) => plan,
         Ok(Err(refusal)) => {
             let refused = refused_model_answer(alloc, form.form_beside(), &refusal);

@@ -3,6 +3,7 @@ ghost use Rattle.std.specs.Prelude.{◌≡◌, false, IfOk, MatchOption};
 ghost use Rattle.pst_cli.specs.Answering.{Delivers, Reaches, Stands};
 ghost use Rattle.pst_cli.specs.Answers.{Answers};
 ghost use Rattle.pst_cli.specs.ChosenItem.{IsItem};
+ghost use Rattle.pst_cli.specs.Commands.{IsMeant};
 ghost use Rattle.pst_cli.specs.GraphOutput.{IsGraphOf, IsGraphOutput, drawn_number, first_failed};
 ghost use Rattle.pst_cli.specs.Output.{AreJudged};
 ghost use Rattle.pst_cli.specs.Sending.{Prints, memory_line};
@@ -16,6 +17,7 @@ use crate::judge::{is_explained_or_valid, status_of_judgements};
 use pst_case::Run;
 use pst_compile::Compiled;
 use pst_explain::graphviz_text_of_item_search;
+use pst_input::InputText;
 use pst_judge::{CallOrder, Judge, Judged};
 use pst_rejudge::ProgressCounter;
 use pst_sexpr::Sink;
@@ -164,18 +166,18 @@ pub fn write_search_graph_of_item<W: Sink, R: Threads + Sync>(
 pub fn draw_item<F: Sink, W: Sink, R: Threads + Sync>(
     rt: &R,
     alloc: Global,
-    input: &[u8],
+    input: &InputText<'_>,
     order: CallOrder,
     item: Option<usize>,
     is_whole: bool,
     to: &mut Destinations<F, W>,
 ) -> Status
     requires stands { Stands F.broken W.broken to.old }
-    ensures prints { Reaches memory_line (IsGraphOutput order input.now item)
+    ensures prints { Reaches memory_line (IsMeant (λ plain. IsGraphOutput order plain item) input.now)
         (Delivers F.taken F.broken W.taken W.broken to.old to.new result) }
 {
     deliver(
-        &graph_answer(rt, alloc, input, order, item, is_whole),
+        &graph_answer(rt, alloc, input.plain(), order, item, is_whole),
         MEMORY_LINE,
         to,
     )

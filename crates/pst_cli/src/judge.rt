@@ -3,7 +3,7 @@ ghost use Rattle.std.specs.Prelude.{◌≡◌, false, All, IfOk, IfSome, MatchRe
 ghost use Rattle.std.specs.List.{list_all};
 ghost use Rattle.pst_cli.specs.Answering.{Delivers, Reaches, Stands, fault_of, memory_of, refusal_of};
 ghost use Rattle.pst_cli.specs.Answers.{Answers, IsRefusalBy, shown_results};
-ghost use Rattle.pst_cli.specs.Commands.{HoldsJudging, IsJudgeAnswer, each_answer};
+ghost use Rattle.pst_cli.specs.Commands.{HoldsJudging, IsJudgeAnswer, IsMeant, IsMeantOf, each_answer};
 ghost use Rattle.pst_cli.specs.KeepingOn.{HoldsAnswers, IsKeepingOnOutput, IsShownKeepingOn};
 ghost use Rattle.pst_cli.specs.Kept.{HoldsJudged};
 ghost use Rattle.pst_cli.specs.Output.{IsJudgeOutput, IsShownOutput, is_good, run_line, status_of, status_of_one};
@@ -27,6 +27,7 @@ use crate::keep::{
 use crate::lines::{Shown, shown_item_verdict_lines};
 use crate::objects::{refusal_object_answer, refused_item_object_answer, shown_item_json_objects};
 use pst_case::{CaseFaultKind, Run};
+use pst_input::InputText;
 use pst_judge::{CallOrder, Judged, Verdict};
 use pst_model::Typed;
 use pst_rejudge::{ItemResult, ProgressCounter};
@@ -276,17 +277,17 @@ fn split_judging(
 pub fn judge_items<F: Sink, W: Sink, R: Threads + Sync, A: Attendant>(
     rt: &R,
     alloc: Global,
-    input: &[u8],
+    input: &InputText<'_>,
     options: JudgeOptions,
     attendant: &mut A,
     to: &mut Destinations<F, W>,
 ) -> (Status, Option<Judging>)
     requires stands { Stands F.broken W.broken to.old }
-    ensures prints { Reaches (memory_of options.form) (IsJudgeAnswer options input.now)
+    ensures prints { Reaches (memory_of options.form) (IsMeant (IsJudgeAnswer options) input.now)
         (Delivers F.taken F.broken W.taken W.broken to.old to.new result.0) }
-    ensures held { IfSome result.1 (HoldsJudging options.order input.now) }
+    ensures held { IfSome result.1 (IsMeantOf (HoldsJudging options.order) input.now) }
 {
-    let judged = judge_answer(rt, alloc, input, options, attendant.steps());
+    let judged = judge_answer(rt, alloc, input.plain(), options, attendant.steps());
     let (answer, judging) = split_judging(judged);
     attendant.before_output();
     (deliver(&answer, memory_text(options.form), to), judging)

@@ -2,7 +2,7 @@
 ghost use Rattle.std.specs.Prelude.{◌≡◌, false, IfOk, string_bytes};
 ghost use Rattle.pst_cli.specs.Answering.{Delivers, Reaches, Stands, memory_of};
 ghost use Rattle.pst_cli.specs.Answers.{Answers};
-ghost use Rattle.pst_cli.specs.Commands.{check_answer};
+ghost use Rattle.pst_cli.specs.Commands.{IsMeant, check_answer};
 ghost use Rattle.pst_cli.specs.Output.{IsCheckOutput, ok_line};
 ghost use Rattle.pst_cli.specs.Sending.{Prints, memory_line};
 ghost use Rattle.pst_cli.specs.ListOutput.{IsListOutput};
@@ -18,6 +18,7 @@ use crate::item_output::tree_line_of_run;
 use crate::objects::check_object_answer;
 use pst_case::Run;
 use pst_compile::listing;
+use pst_input::InputText;
 use pst_json_runs::run_json_line;
 use pst_model::Typed;
 use pst_sexpr::Sink;
@@ -75,17 +76,17 @@ pub fn check_text<W: Sink>(alloc: Global, input: &[u8], sink: &mut W) -> Status
 /// are lines of objects.
 pub fn check_model<F: Sink, W: Sink>(
     alloc: Global,
-    input: &[u8],
+    input: &InputText<'_>,
     form: OutputForm,
     notices: &[u8],
     to: &mut Destinations<F, W>,
 ) -> Status
     requires stands { Stands F.broken W.broken to.old }
-    ensures prints { Reaches (memory_of form) (check_answer form notices.now input.now)
+    ensures prints { Reaches (memory_of form) (IsMeant (check_answer form notices.now) input.now)
         (Delivers F.taken F.broken W.taken W.broken to.old to.new result) }
 {
     deliver(
-        &check_answer(alloc, input, form, notices),
+        &check_answer(alloc, input.plain(), form, notices),
         memory_text(form),
         to,
     )
@@ -118,14 +119,14 @@ pub fn list_text<W: Sink>(alloc: Global, input: &[u8], sink: &mut W) -> Status
 /// Does what [`list_text`] does.
 pub fn list_model<F: Sink, W: Sink>(
     alloc: Global,
-    input: &[u8],
+    input: &InputText<'_>,
     to: &mut Destinations<F, W>,
 ) -> Status
     requires stands { Stands F.broken W.broken to.old }
-    ensures prints { Reaches memory_line (IsListOutput input.now)
+    ensures prints { Reaches memory_line (IsMeant IsListOutput input.now)
         (Delivers F.taken F.broken W.taken W.broken to.old to.new result) }
 {
-    deliver(&list_answer(alloc, input), MEMORY_LINE, to)
+    deliver(&list_answer(alloc, input.plain()), MEMORY_LINE, to)
 }
 
 /// How items are spelled.
@@ -192,13 +193,13 @@ fn convert_answer(alloc: Global, input: &[u8], form: ItemForm) -> Result<Answer,
 /// allocation fails, writes `refused memory` alone.
 pub fn convert_items<F: Sink, W: Sink>(
     alloc: Global,
-    input: &[u8],
+    input: &InputText<'_>,
     form: ItemForm,
     to: &mut Destinations<F, W>,
 ) -> Status
     requires stands { Stands F.broken W.broken to.old }
-    ensures prints { Reaches memory_line (IsConvertOutput form input.now)
+    ensures prints { Reaches memory_line (IsMeant (IsConvertOutput form) input.now)
         (Delivers F.taken F.broken W.taken W.broken to.old to.new result) }
 {
-    deliver(&convert_answer(alloc, input, form), MEMORY_LINE, to)
+    deliver(&convert_answer(alloc, input.plain(), form), MEMORY_LINE, to)
 }

@@ -91,18 +91,6 @@ fn json_text_line_starting_at(text: &[u8], place: usize) -> &[u8] {
     text.get(place..).unwrap_or(&[])
 }
 
-/// The place of the first line with a JSON item.
-pub fn find_first_line_like_json_item(text: &[u8]) -> Option<usize> {
-    let mut is_begin = true;
-    for (place, byte) in text.iter().enumerate() {
-        if is_begin && *byte == b'{' {
-            return Some(place);
-        }
-        is_begin = *byte == b'\n';
-    }
-    None
-}
-
 /// The two places at which a line begins: in the text with JSON items, and in the text with trees in their place.
 #[derive(Clone, Copy, Drop)]
 struct JsonAndTreeLineStart {
@@ -200,7 +188,7 @@ fn json_fault_or_translated_notice(
 }
 
 /// The files with a tree in place of each JSON item.
-pub fn files_with_json_as_trees<'a>(
+fn files_with_json_as_trees<'a>(
     alloc: Global,
     model: &Source,
     files: &[SourceFile<'a>],

@@ -30,7 +30,7 @@ mod warning;
 
 pub use broken::{first_broken_item_result_and_count_message, first_broken_run_and_count_message};
 pub use faults::explanation_why_trial_has_no_case;
-pub use json_input::{ItemInput, files_with_json_as_trees, find_first_line_like_json_item};
+pub use json_input::ItemInput;
 pub use later_state::model_beginning_after_call;
 pub use message::{MessageScope, input_error_messages_text, input_error_notices};
 pub use missing_model::has_model_at_start;

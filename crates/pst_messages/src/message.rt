@@ -2,8 +2,9 @@
 
 use crate::bytes::{ByteFault, byte_fault_of_sexpr_fault};
 use crate::item_hints::replace_notes_by_hint_if_misplaced;
-use crate::json_input::{errors_of_input_with_json_items, find_first_line_like_json_item};
+use crate::json_input::errors_of_input_with_json_items;
 use crate::missing_model::model_form_problems_with_hints;
+use pst_input::find_json_items;
 use pst_model::Typed;
 use pst_run_problems::refused_case_or_run_problem;
 use pst_runs::{RunFault, read_runs};
@@ -307,13 +308,13 @@ pub fn errors_of_input_without_json_items(
 }
 
 /// The errors of an input: for each the bytes that are wrong, what was expected and found, and hints. There are none if
-/// no part that `scope` selects is refused. Lines that begin with `{` are items as JSON.
+/// no part that `scope` selects is refused. Lines after the first tree that begin with `{` are items as JSON.
 pub fn input_error_notices(
     alloc: Global,
     input: &Input<'_>,
     scope: MessageScope,
 ) -> Result<Notices, AllocError> {
-    match find_first_line_like_json_item(input.bytes) {
+    match find_json_items(input.bytes) {
         Some(place) => errors_of_input_with_json_items(alloc, input, scope, place),
         None => errors_of_input_without_json_items(alloc, input, scope),
     }

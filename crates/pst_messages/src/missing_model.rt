@@ -1,6 +1,7 @@
 //! Hints on an input that begins with no model.
 
 use crate::item_hints::is_model_tree;
+use pst_input::{find_first_line_like_json_item, find_json_items};
 use pst_sexpr::Tree;
 use pst_sources::{Input, head_of_first_item};
 use pst_syntax_problems::{Problem, first_model_syntax_problems};
@@ -50,12 +51,19 @@ fn has_case_or_run_at_start(bytes: &[u8]) -> bool {
     }
 }
 
+/// Whether a line begins with `{` before the first tree ends.
+fn has_json_line_before_first_tree(bytes: &[u8]) -> bool {
+    find_first_line_like_json_item(bytes).is_some() && find_json_items(bytes).is_none()
+}
+
 /// The hint to name the model's file first, if the input begins with no model.
 fn hint_on_missing_model_file(input: &Input<'_>, trees: &[Tree]) -> Option<&'static str> {
     if trees.is_empty() && input.files.len() > 1 {
         return Some("hint: the model's file comes first");
     }
-    if has_case_or_run_at_start(input.bytes) && !has_model_tree(trees) {
+    let has_item_at_start = has_case_or_run_at_start(input.bytes)
+        || has_json_line_before_first_tree(input.bytes);
+    if has_item_at_start && !has_model_tree(trees) {
         return Some("hint: name the model's file first");
     }
     None

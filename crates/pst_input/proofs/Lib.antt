@@ -1,0 +1,3 @@
+pub mod One
+pub mod Found
+pub mod Meanings
