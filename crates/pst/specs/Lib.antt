@@ -1,2 +1,4 @@
 pub mod Answering
+pub mod Commands
 pub mod Endings
+pub mod Numbers

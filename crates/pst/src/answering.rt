@@ -1,13 +1,12 @@
 //! The commands that need nothing but their input.
 ghost use Rattle.pst.specs.Answering.{HasTrials, IsInputAnswer, memory_text};
-ghost use Rattle.pst.specs.Endings.{Refuses};
 ghost use Rattle.pst_cli.specs.Answering.{Delivers, Reaches, Stands};
 ghost use Rattle.pst_cli.specs.Commands.{IsMeant};
 
 use crate::item_progress::ProgressDisplay;
 use pst_cli::{
-    Absence, CallOrder, Destinations, ExplainOptions, ItemForm, OutputForm, Status, check_model,
-    convert_items, draw_item, explain_items, generate_cases, list_model, refuse,
+    CallOrder, Destinations, ExplainOptions, ItemForm, OutputForm, Status, check_model,
+    convert_items, draw_item, explain_items, generate_cases, list_model,
 };
 use pst_input::InputText;
 use pst_sexpr::Sink;
@@ -46,14 +45,6 @@ pub enum InputCommand<'a> {
         item: Option<usize>,
         is_whole: bool,
     },
-}
-
-/// Writes why there is nothing to begin with to the output, and returns the status. The file for results stays as it is.
-pub fn refuse_absent<F: Sink, W: Sink>(why: Absence<'_>, to: &mut Destinations<F, W>) -> Status
-    requires { Stands F.broken W.broken to.old }
-    ensures { Refuses F.taken F.broken W.taken W.broken to.old to.new result }
-{
-    refuse(why, to)
 }
 
 /// Writes the output of a command for an input, and returns its status.

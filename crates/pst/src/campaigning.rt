@@ -1,28 +1,28 @@
 //! `pst campaign`.
-ghost use Rattle.std.specs.Prelude.{IsSome, ◌⊎◌};
+ghost use Rattle.std.specs.Prelude.{◌≡◌, ◌⊎◌, IfErr, IfOk, IsSome, codes};
 ghost use Rattle.pst_campaign.specs.Entries.{MayGive};
-ghost use Rattle.pst.specs.Endings.{EndsWith, made};
-ghost use Rattle.pst.specs.declared.subcommands.Subcommand.TheVariants as subcommand;
+ghost use Rattle.pst.specs.Commands.{IsGiven, SavesFailures};
+ghost use Rattle.pst.specs.Endings.{EndsCampaign, IsLostOnlyIf, WritesBeside};
 ghost use Rattle.pst_cli.specs.Answering.{Delivers, Reaches, Stands, memory_of};
 ghost use Rattle.pst_cli.specs.Commands.{IsCampaignAnswer};
+ghost use Rattle.pst_cli.specs.declared.answer.Status.TheVariants.{Lost};
 ghost use Rattle.pst_trial.specs.Settings.{AreInRange};
 
-use crate::answering::refuse_absent;
 use crate::campaign_watchers::{CampaignProgress, CampaignWatch, begin_campaign_display};
+use crate::commands::CampaignCommand;
 use crate::preparing::SubcommandContext;
 use crate::running::{SystemsResult, systems_or_absence};
 use crate::saving::FailureSaver;
 use crate::stop_signals::StopFlag;
+use crate::subcommands::{Subcommand, campaign_settings_from_arguments};
 use crate::systems::system_name_from_arguments_or_empty;
-use crate::{diagnostics, failure_explanations, outputs, page, subcommands};
+use crate::{diagnostics, failure_explanations, outputs, page};
 use clap::ArgMatches;
 use pst_campaign::{EarlyStop, Signal};
-use pst_cli::{
-    Absence, CampaignEnd, Destinations, KnownSystem, OutputForm, Status, report_campaign,
-};
+use pst_cli::{Absence, CampaignEnd, Destinations, KnownSystem, Status, refuse, report_campaign};
 use pst_input::InputText;
 use pst_sexpr::Sink;
-use pst_sources::Input;
+use pst_sources::{Input, SourceFile};
 use pst_system::{BoxedSystem, System};
 use pst_trial::Settings;
 use std::alloc::AllocError;
@@ -30,52 +30,33 @@ use std::rt::Files;
 use std::sync::Wait;
 use std::thread::Threads;
 
-/// How a campaign is run, and what is written of it.
-#[derive(Clone, Copy, Drop)]
-struct CampaignOptions<'a> {
-    form: OutputForm,
-    /// How many trials that did not pass end the campaign, if there is a limit.
-    most: Option<u64>,
-    is_quiet: bool,
-    /// Whether standard error is a terminal.
-    is_terminal: bool,
-    /// The system, if it is a sample.
-    sample: Option<KnownSystem>,
-    /// The file of the page of failures, if it is written.
-    page: Option<&'a str>,
-    /// The folder for failures, if they are saved.
-    saver: Option<&'a FailureSaver<'a>>,
-    input: Input<'a>,
-    /// The width of lines of explanations, in bytes.
-    line_width: usize,
-}
-
 /// Runs a campaign until `signal` is given, and writes its report once it is complete. If standard error is a terminal, a
-/// line on it displays the progress, unless the options are quiet. Returns the status of the report, and that of what is
-/// written beside it.
-fn run_campaign_with_messages<
+/// line on it displays the progress, unless the arguments forbid it. Returns the status of the report, and what the trials
+/// came to if one could begin.
+fn run_campaign_with_progress<
     F: Sink,
     W: Sink,
     N: Signal + Sync + Drop,
-    R: Threads + Wait + Sync + Eprint + Files + AllocGlobal + Copy + Drop + Send + 'static,
+    R: Threads + Wait + Sync + Eprint + AllocGlobal + Copy + Drop + Send + 'static,
 >(
     rt: &R,
-    settings: Settings,
+    context: SubcommandContext<'_, '_>,
+    campaign: CampaignCommand<'_, '_>,
+    input: &[u8],
     systems: Vec<BoxedSystem>,
-    options: CampaignOptions<'_>,
     signal: N,
     to: &mut Destinations<F, W>,
-) -> (Status, Status)
-    requires ranges { AreInRange settings }
+) -> (Status, Option<CampaignEnd>)
+    requires ranges { AreInRange campaign.settings }
     requires stands { Stands F.broken W.broken to.old }
-    ensures { Reaches (memory_of options.entry.form)
-        (IsCampaignAnswer options.entry.form (IsSome options.entry.most ⊎ N.may_be_given signal)
+    ensures { Reaches (memory_of campaign.entry.form)
+        (IsCampaignAnswer campaign.entry.form (IsSome campaign.entry.most ⊎ N.may_be_given signal)
         (λ s. MayGive ((System-box s).answers s.value) ((System-box s).fails s.value)
-        ((System-box s).reset_fails s.value)) settings systems.items options.entry.input.bytes.now)
+        ((System-box s).reset_fails s.value)) campaign.entry.settings systems.items input.now)
         (Delivers F.taken F.broken W.taken W.broken to.old to.new result.0) }
 {
-    let (alloc, form, input) = (rt.alloc(), options.form, options.input.bytes);
-    let progress = if options.is_terminal && !options.is_quiet {
+    let (alloc, settings, form) = (rt.alloc(), campaign.settings, campaign.form);
+    let progress = if context.terminals.errors && !context.arguments.get_flag("quiet") {
         CampaignProgress::shared(alloc, settings.trials as u64)
     } else {
         None
@@ -83,9 +64,9 @@ fn run_campaign_with_messages<
     let mut display = begin_campaign_display(rt, alloc, &progress);
     let watch = CampaignWatch {
         progress,
-        ending: EarlyStop::new(options.most, signal),
+        ending: EarlyStop::new(campaign.most, signal),
     };
-    let (status, end) = report_campaign(
+    report_campaign(
         rt,
         alloc,
         input,
@@ -95,10 +76,82 @@ fn run_campaign_with_messages<
         form,
         &mut display,
         to,
+    )
+}
+
+/// Writes the page of a campaign to the file `name`, if there is one. The status is `Lost` if it cannot be written, and else
+/// `Accepted`.
+fn write_page_if_wanted<R: Eprint + Files + AllocGlobal>(
+    rt: &R,
+    name: Option<&str>,
+    files: &[SourceFile<'_>],
+    end: &CampaignEnd,
+) -> Status
+    ensures { IsLostOnlyIf (IsSome name.entry) result }
+{
+    match name {
+        Some(name) => page::write_campaign_page(rt, name, files, end),
+        None => Status::Accepted,
+    }
+}
+
+/// Saves the failures of a campaign, if they are saved. The status is `Lost` if one cannot be written, and else `Accepted`.
+fn save_failures_if_wanted<R: Eprint + Files + AllocGlobal>(
+    rt: &R,
+    saver: Option<&FailureSaver<'_>>,
+    end: &CampaignEnd,
+    is_quiet: bool,
+) -> Status
+    ensures { IsLostOnlyIf (IsSome saver.entry) result }
+{
+    match saver {
+        Some(saver) => saver.save_failures(rt, end, is_quiet),
+        None => Status::Accepted,
+    }
+}
+
+/// Writes explanations of the smallest failure and of the first trial without a case to standard error, and without such a
+/// trial the warnings on the model.
+fn print_messages_on_campaign<R: Eprint + AllocGlobal>(
+    rt: &R,
+    campaign: CampaignCommand<'_, '_>,
+    input: Input<'_>,
+    end: &CampaignEnd,
+    line_width: usize,
+) {
+    let alloc = rt.alloc();
+    let sample = KnownSystem::named(campaign.system);
+    failure_explanations::print_campaign_explanations_to_stderr(
+        rt,
+        alloc,
+        sample,
+        input.bytes,
+        end,
+        line_width,
     );
-    let has_messages = !options.is_quiet && !outputs::has_output_failed(to);
-    let beside = write_beside_report(rt, options, has_messages, &end);
-    (status, beside)
+    if end.first_trial_without_case().is_none() {
+        diagnostics::print_input_warnings_to_stderr(rt, alloc, input.files, input.bytes);
+    }
+}
+
+/// Writes what a campaign came to: the page; if `has_messages`, messages on standard error; and the failures in a folder.
+fn write_end_of_campaign<R: Eprint + Files + AllocGlobal>(
+    rt: &R,
+    context: SubcommandContext<'_, '_>,
+    campaign: CampaignCommand<'_, '_>,
+    input: Input<'_>,
+    has_messages: bool,
+    end: &CampaignEnd,
+) -> Status
+    ensures { IsLostOnlyIf (WritesBeside campaign.entry) result }
+{
+    let page = write_page_if_wanted(rt, campaign.page, input.files, end);
+    if has_messages {
+        print_messages_on_campaign(rt, campaign, input, end, context.line_width);
+    }
+    let is_quiet = context.arguments.get_flag("quiet");
+    let saved = save_failures_if_wanted(rt, campaign.saver, end, is_quiet);
+    page.or_worse(saved)
 }
 
 /// Writes what is wanted beside the report of a campaign: if it began, what it came to; and if `has_messages` and no trial
@@ -106,53 +159,21 @@ fn run_campaign_with_messages<
 /// written, and else `Accepted`.
 fn write_beside_report<R: Eprint + Files + AllocGlobal>(
     rt: &R,
-    options: CampaignOptions<'_>,
+    context: SubcommandContext<'_, '_>,
+    campaign: CampaignCommand<'_, '_>,
+    input: Input<'_>,
     has_messages: bool,
     end: &Option<CampaignEnd>,
-) -> Status {
-    let Input { files, bytes } = options.input;
-    match end {
-        Some(end) => write_end_of_campaign(rt, options, has_messages, end),
-        None => {
-            if has_messages {
-                diagnostics::print_input_warnings_to_stderr(rt, rt.alloc(), files, bytes);
-            }
-            Status::Accepted
+) -> Status
+    ensures { IsLostOnlyIf (WritesBeside campaign.entry) result }
+{
+    let Some(end) = end else {
+        if has_messages {
+            diagnostics::print_input_warnings_to_stderr(rt, rt.alloc(), input.files, input.bytes);
         }
-    }
-}
-
-/// Writes what a campaign came to: the page; if `has_messages`, explanations of the smallest failure and of the first trial
-/// without a case on standard error, and without such a trial the warnings on the model; and the failures in a folder.
-fn write_end_of_campaign<R: Eprint + Files + AllocGlobal>(
-    rt: &R,
-    options: CampaignOptions<'_>,
-    has_messages: bool,
-    end: &CampaignEnd,
-) -> Status {
-    let (alloc, width) = (rt.alloc(), options.line_width);
-    let Input { files, bytes } = options.input;
-    let status = match options.page {
-        Some(name) => page::write_campaign_page(rt, name, files, end),
-        None => Status::Accepted,
+        return Status::Accepted;
     };
-    if has_messages {
-        failure_explanations::print_campaign_explanations_to_stderr(
-            rt,
-            alloc,
-            options.sample,
-            bytes,
-            end,
-            width,
-        );
-        if end.first_trial_without_case().is_none() {
-            diagnostics::print_input_warnings_to_stderr(rt, alloc, files, bytes);
-        }
-    }
-    match options.saver {
-        Some(saver) => status.or_worse(saver.save_failures(rt, end, options.is_quiet)),
-        None => status,
-    }
+    write_end_of_campaign(rt, context, campaign, input, has_messages, end)
 }
 
 /// Writes to standard error that the file that ends the campaign is there before it begins, if that is so.
@@ -178,60 +199,90 @@ fn print_note_if_branches_lack_commands<R: Eprint>(rt: &R, settings: Settings) {
     }
 }
 
-/// Runs a campaign with a worker for each of the systems, and saves its failures if the arguments say so. It refuses if the
+/// Returns whether there are systems for a campaign.
+fn has_systems(systems: &SystemsResult) -> bool {
+    match systems {
+        Ok(systems) => !systems.is_empty(),
+        Err(_) => false,
+    }
+}
+
+/// Writes to standard error what is odd about a campaign, unless the arguments forbid that, and makes the folder for its
+/// failures, if they are saved. The inner error is the status that the program ends with.
+fn begin_campaign<'a, R: Eprint + Files + AllocGlobal>(
+    rt: &R,
+    arguments: &ArgMatches<'a>,
+    signal: StopFlag<'_>,
+) -> Result<Result<Option<FailureSaver<'a>>, Status>, AllocError>
+    ensures folder { IfOk result (λ begun. IfErr begun
+        (λ status. (status ≡ Lost) × IsGiven arguments.now (codes "save"))) }
+    ensures memory { IfErr result (λ e. IsGiven arguments.now (codes "save")) }
+{
+    let Some(settings) = campaign_settings_from_arguments(arguments) else {
+        return Ok(Ok(None));
+    };
+    if !arguments.get_flag("quiet") {
+        print_warning_if_stop_file_exists(rt, arguments, signal);
+        print_note_if_branches_lack_commands(rt, settings);
+    }
+    let name = system_name_from_arguments_or_empty(arguments);
+    FailureSaver::begin_if_wanted(rt, arguments, settings.seed, name)
+}
+
+/// Begins the campaign that the arguments choose, if they choose one and its systems were made. The inner error is the status
+/// that the program ends with.
+pub fn begin_campaign_if_systems_are_made<'a, R: Eprint + Files + AllocGlobal>(
+    rt: &R,
+    context: SubcommandContext<'_, 'a>,
+    systems: &SystemsResult,
+) -> Result<Result<Option<FailureSaver<'a>>, Status>, AllocError>
+    ensures folder { IfOk result (λ begun. IfErr begun
+        (λ status. (status ≡ Lost) × SavesFailures context.entry.subcommand context.entry.arguments.now)) }
+    ensures memory { IfErr result (λ e. SavesFailures context.entry.subcommand context.entry.arguments.now) }
+{
+    if !has_systems(systems) {
+        return Ok(Ok(None));
+    }
+    match context.subcommand {
+        Subcommand::Campaign => begin_campaign(rt, context.arguments, context.signal),
+        _ => Ok(Ok(None)),
+    }
+}
+
+/// Runs a campaign with a worker for each of the systems, and writes what is wanted beside its report. It refuses if the
 /// systems were not made, or there are none. Unless the arguments forbid it, a line on standard error displays the
 /// progress, if that is a terminal, and explanations and warnings follow after the report.
-#[tactic(auto, using(crate::proofs::Endings::ends_by_refusal, crate::proofs::Endings::ends_silently))]
-pub fn run_campaign_subcommand<
+pub fn run_campaign_on_systems<
     F: Sink,
     W: Sink,
     R: Threads + Wait + Sync + Eprint + Files + AllocGlobal + Copy + Drop + Send + 'static,
 >(
     rt: &R,
     context: SubcommandContext<'_, '_>,
-    systems: SystemsResult,
+    campaign: CampaignCommand<'_, '_>,
     input: &InputText<'_>,
+    systems: SystemsResult,
     to: &mut Destinations<F, W>,
 ) -> Status
-    requires { Stands F.broken W.broken to.old }
-    ensures { EndsWith (λ s. (System-box s).answers s.value) (λ s. (System-box s).fails s.value)
-        (λ s. (System-box s).reset_fails s.value) (made systems) (IsSome context.entry.signal.is_set)
-        F.taken F.broken W.taken W.broken input.now subcommand.Campaign to.old to.new result }
+    requires ranges { AreInRange campaign.settings }
+    requires stands { Stands F.broken W.broken to.old }
+    ensures { EndsCampaign (Delivers F.taken F.broken W.taken W.broken to.old to.new) systems
+        (λ s. (System-box s).answers s.value) (λ s. (System-box s).fails s.value)
+        (λ s. (System-box s).reset_fails s.value) input.now (IsSome context.entry.signal.is_set)
+        campaign.entry result }
 {
-    let arguments = context.arguments;
-    let name = system_name_from_arguments_or_empty(arguments);
-    let systems = match systems_or_absence(rt, arguments, name, systems) {
+    let systems = match systems_or_absence(rt, context.arguments, campaign.system, systems) {
         Ok(systems) => systems,
-        Err(why) => return refuse_absent(why, to),
+        Err(why) => return refuse(why, to),
     };
     if systems.is_empty() {
-        return refuse_absent(Absence::NoSystem(name), to);
+        return refuse(Absence::NoSystem(campaign.system), to);
     }
-    let Some(settings) = subcommands::campaign_settings_from_arguments(arguments) else {
-        return Status::Refused;
-    };
-    let is_quiet = arguments.get_flag("quiet");
-    let signal = context.signal;
-    if !is_quiet {
-        print_warning_if_stop_file_exists(rt, arguments, signal);
-        print_note_if_branches_lack_commands(rt, settings);
-    }
-    let saver = match FailureSaver::begin_if_wanted(rt, arguments, settings.seed, name) {
-        Ok(Ok(saver)) => saver,
-        Ok(Err(status)) => return status,
-        Err(AllocError) => return refuse_absent(Absence::NoMemory, to),
-    };
-    let options = CampaignOptions {
-        form: subcommands::output_form_from_arguments(arguments),
-        most: arguments.get_one("max-failures"),
-        is_quiet,
-        is_terminal: context.terminals.errors,
-        sample: KnownSystem::named(name),
-        page: arguments.get_str("html"),
-        saver: saver.as_ref(),
-        input: input.plain_input(),
-        line_width: context.line_width,
-    };
-    let (status, others) = run_campaign_with_messages(rt, settings, systems, options, signal, to);
-    status.or_worse(others)
+    let (plain, signal) = (input.plain_input(), context.signal);
+    let (status, end) = run_campaign_with_progress(
+        rt, context, campaign, plain.bytes, systems, signal, to,
+    );
+    let has_messages = !context.arguments.get_flag("quiet") && !outputs::has_output_failed(to);
+    let beside = write_beside_report(rt, context, campaign, plain, has_messages, &end);
+    status.or_worse(beside)
 }

@@ -1,7 +1,7 @@
 //! `pst explain`: its arguments.
 ghost use Rattle.std.specs.Prelude.{◌≡◌};
 ghost use Rattle.pst.specs.Answering.{HasTrials};
-ghost use Rattle.pst.specs.Endings.{subcommand_of};
+ghost use Rattle.pst.specs.Commands.{subcommand_of_input};
 ghost use Rattle.pst.specs.declared.subcommands.Subcommand.TheVariants as subcommand;
 
 use crate::answering::InputCommand;
@@ -175,7 +175,7 @@ pub fn explain_command_from_arguments<'a, R: Env + AllocGlobal>(
     files: &'a [SourceFile<'a>],
 ) -> InputCommand<'a>
     ensures trials { HasTrials result }
-    ensures subcommand { subcommand_of result ≡ subcommand.Explain }
+    ensures subcommand { subcommand_of_input result ≡ subcommand.Explain }
 {
     let order = subcommands::order_for_recorded_runs_from_arguments(arguments);
     let is_one = !arguments.get_flag("failures") && arguments.get_str("max").is_none();

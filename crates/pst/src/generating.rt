@@ -1,7 +1,7 @@
 //! `pst generate`.
 ghost use Rattle.std.specs.Prelude.{◌≡◌, IfSome};
 ghost use Rattle.pst.specs.Answering.{HasTrials};
-ghost use Rattle.pst.specs.Endings.{subcommand_of};
+ghost use Rattle.pst.specs.Commands.{subcommand_of_input};
 ghost use Rattle.pst.specs.declared.subcommands.Subcommand.TheVariants as subcommand;
 
 use crate::answering::InputCommand;
@@ -44,7 +44,7 @@ pub fn refuse_generate_trial_numbers_that_overflow<R: Eprint>(
 /// Returns which cases the arguments choose, without those of trials whose numbers do not fit 64 bits.
 pub fn generate_command_from_arguments(arguments: &ArgMatches<'_>) -> Option<InputCommand<'static>>
     ensures trials { IfSome result HasTrials }
-    ensures subcommand { IfSome result (λ command. subcommand_of command ≡ subcommand.Generate) }
+    ensures subcommand { IfSome result (λ command. subcommand_of_input command ≡ subcommand.Generate) }
 {
     let settings = subcommands::settings_for_generate_from_arguments(arguments)?;
     let first: u64 = arguments.get_one("first")?;

@@ -7,6 +7,7 @@ mod branches;
 mod campaign_watchers;
 mod campaigning;
 mod clients;
+mod commands;
 mod diagnostics;
 mod driving;
 mod explaining;

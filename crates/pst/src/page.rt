@@ -1,4 +1,6 @@
 //! The page of a campaign's failures: `pst campaign --html FILE`.
+ghost use Rattle.std.specs.Prelude.{◌≡◌, ◌⊎◌};
+ghost use Rattle.pst_cli.specs.declared.answer.Status.TheVariants.{Accepted, Lost};
 
 use crate::input::STANDARD_INPUT;
 use crate::outputs::print_why_file_was_not_written;
@@ -70,7 +72,9 @@ pub fn write_campaign_page<R: Files + Eprint + AllocGlobal>(
     name: &str,
     files: &[SourceFile<'_>],
     end: &CampaignEnd,
-) -> Status {
+) -> Status
+    ensures { (result ≡ Accepted) ⊎ (result ≡ Lost) }
+{
     let alloc = rt.alloc();
     let Ok(page) = campaign_failures_html_page(alloc, files, end) else {
         let _ = eprintln!(rt; "pst: cannot write {name}: memory allocation failed");

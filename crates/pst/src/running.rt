@@ -1,16 +1,13 @@
 //! The run of a subcommand on its input: its output, and messages on standard error.
-ghost use Rattle.std.specs.Prelude.{◌≡◌, IfOk, IfSome, IsSome};
-ghost use Rattle.pst.specs.Answering.{HasTrials};
-ghost use Rattle.pst.specs.Endings.{EndsWith, made, subcommand_of};
-ghost use Rattle.pst.specs.declared.subcommands.Subcommand.TheVariants as subcommand;
+ghost use Rattle.std.specs.Prelude.{◌≡◌, IfErr, IfOk, IsSome, Ok};
+ghost use Rattle.pst.specs.Commands.{IsInRange};
+ghost use Rattle.pst.specs.Endings.{Ends, EndsRun, EndsSubcommand, IsAbsence};
 ghost use Rattle.pst_cli.specs.Answering.{Delivers, Reaches, Stands, memory_of};
 ghost use Rattle.pst_cli.specs.Commands.{IsJudgeAnswer, IsMeant};
-ghost use Rattle.pst_cli.specs.declared.judge.JudgeOptions.{JudgeOptions};
 
-use crate::answering::{InputCommand, answer_input_command, refuse_absent};
-use crate::campaigning::run_campaign_subcommand;
-use crate::explaining::explain_command_from_arguments;
-use crate::generating::generate_command_from_arguments;
+use crate::answering::answer_input_command;
+use crate::campaigning::{begin_campaign_if_systems_are_made, run_campaign_on_systems};
+use crate::commands::{Command, RunCommand, command_from_arguments};
 use crate::outputs::{WriteErrorKeeper, print_output_error_unless_pipe_closed};
 use crate::preparing::{PreparedInput, SubcommandContext, output_file_name_from_arguments};
 use crate::result_file::{
@@ -18,19 +15,19 @@ use crate::result_file::{
     status_after_reporting_output_failure, writer_and_error_if_failed,
 };
 use crate::stop_signals::{StopFileState, StopFileWatch, StopFlag};
-use crate::subcommands::{Subcommand, output_form_from_arguments};
-use crate::systems::{SystemsError, system_name_from_arguments_or_empty};
+use crate::subcommands::Subcommand;
+use crate::systems::SystemsError;
 use crate::terminal::{Terminals, line_width_of_environment_or_default};
-use crate::{clients, diagnostics, driving, formatting, judging, stop_signals, streaming, summary};
+use crate::{clients, diagnostics, driving, judging, stop_signals, streaming, summary};
 use clap::ArgMatches;
-use pst_cli::{Absence, Destinations, ItemResultCounts, Status};
+use pst_cli::{Absence, Destinations, ItemResultCounts, JudgeOptions, Status, refuse};
 use pst_input::InputText;
 use pst_sexpr::{Out, Sink};
-use pst_sources::{Input, SourceFile};
+use pst_sources::Input;
 use pst_system::BoxedSystem;
-use std::alloc::Global;
+use std::alloc::{AllocError, Global};
 use std::fs::symlink_metadata;
-use std::io;
+use std::io::{self, Read};
 use std::rt::{Env, Files, Runtime};
 use std::sync::{Arc, Wait};
 use std::thread::{JoinHandle, Threads};
@@ -46,7 +43,8 @@ pub fn systems_or_absence<'a, R: Eprint + AllocGlobal>(
     name: &'a str,
     systems: SystemsResult,
 ) -> Result<Vec<BoxedSystem>, Absence<'a>>
-    ensures { IfOk result (λ all. made systems ≡ all.items) }
+    ensures made { IfOk result (λ all. systems ≡ Ok all) }
+    ensures absent { IfErr result (IsAbsence systems name.entry) }
 {
     match systems {
         Ok(systems) => Ok(systems),
@@ -59,7 +57,6 @@ pub fn systems_or_absence<'a, R: Eprint + AllocGlobal>(
 }
 
 /// Drives the cases on the last of the systems, or refuses if they were not made.
-#[tactic(auto, using(crate::proofs::Endings::ends_by_refusal))]
 fn drive_on_last_system<
     F: Sink,
     W: Sink,
@@ -67,56 +64,27 @@ fn drive_on_last_system<
 >(
     rt: &R,
     context: SubcommandContext<'_, '_>,
+    run: RunCommand<'_>,
     input: &InputText<'_>,
     systems: SystemsResult,
     counts: &mut ItemResultCounts,
     to: &mut Destinations<F, W>,
 ) -> Status
     requires { Stands F.broken W.broken to.old }
-    ensures { EndsWith (λ s. (System-box s).answers s.value) (λ s. (System-box s).fails s.value)
-        (λ s. (System-box s).reset_fails s.value) (made systems) (IsSome context.entry.signal.is_set)
-        F.taken F.broken W.taken W.broken input.now subcommand.Run to.old to.new result }
+    ensures { EndsRun (Delivers F.taken F.broken W.taken W.broken to.old to.new) systems
+        (λ s. (System-box s).answers s.value) (λ s. (System-box s).fails s.value)
+        (λ s. (System-box s).reset_fails s.value) input.now run.entry result }
 {
-    let arguments = context.arguments;
-    let name = system_name_from_arguments_or_empty(arguments);
-    let mut systems = match systems_or_absence(rt, arguments, name, systems) {
+    let mut systems = match systems_or_absence(rt, context.arguments, run.system, systems) {
         Ok(systems) => systems,
-        Err(why) => return refuse_absent(why, to),
+        Err(why) => return refuse(why, to),
     };
-    let Some(mut system) = systems.pop() else {
-        return refuse_absent(Absence::NoSystem(name), to);
+    let mut system = match systems.pop() {
+        Some(system) => system,
+        None => return refuse(Absence::NoSystem(run.system), to),
     };
-    let options = driving::drive_options_from_arguments(arguments);
-    driving::drive_with_messages(rt, options, context, &mut system, input.plain(), counts, to)
-}
-
-/// Returns the command that the arguments choose, if it needs nothing but its input. `notices` are part of the output of `check`.
-fn input_command_from_arguments<'a, R: Env + AllocGlobal>(
-    rt: &R,
-    subcommand: Subcommand,
-    arguments: &ArgMatches<'_>,
-    terminals: Terminals,
-    files: &'a [SourceFile<'a>],
-    notices: &'a [u8],
-) -> Option<InputCommand<'a>>
-    ensures trials { IfSome result HasTrials }
-    ensures subcommand { IfSome result (λ command. subcommand_of command ≡ subcommand) }
-{
-    match subcommand {
-        Subcommand::Check => Some(InputCommand::Check {
-            form: output_form_from_arguments(arguments),
-            notices,
-        }),
-        Subcommand::List => Some(InputCommand::ListCode),
-        Subcommand::Convert => Some(InputCommand::Convert(formatting::item_form_from_arguments(
-            arguments,
-        ))),
-        Subcommand::Generate => generate_command_from_arguments(arguments),
-        Subcommand::Explain => Some(explain_command_from_arguments(
-            rt, arguments, terminals, files,
-        )),
-        Subcommand::Judge | Subcommand::Run | Subcommand::Campaign => None,
-    }
+    let plain = input.plain();
+    driving::drive_with_messages(rt, run.options, context, &mut system, plain, counts, to)
 }
 
 /// Judges the items of the files.
@@ -127,89 +95,104 @@ fn judge_items_of_files<
 >(
     rt: &R,
     context: SubcommandContext<'_, '_>,
+    options: JudgeOptions,
     input: &InputText<'_>,
     counts: &mut ItemResultCounts,
     to: &mut Destinations<F, W>,
 ) -> Status
     requires { Stands F.broken W.broken to.old }
-    ensures { (options : JudgeOptions) × Reaches (memory_of options.form) (IsMeant (IsJudgeAnswer options) input.now)
+    ensures { Reaches (memory_of options.form) (IsMeant (IsJudgeAnswer options) input.now)
         (Delivers F.taken F.broken W.taken W.broken to.old to.new result) }
 {
-    let options = judging::judge_options_from_arguments(context.arguments);
     let is_quiet = context.arguments.get_flag("quiet");
     let has_progress_line = context.terminals.errors && !is_quiet;
     judging::judge_with_messages(rt, options, is_quiet, has_progress_line, input, counts, to)
 }
 
-/// Runs the subcommand, writes its output, and counts the results of its items.
-#[tactic(auto, using(crate::proofs::Endings::ends_silently))]
-fn run_subcommand<
+/// Runs a command, writes its output, and counts the results of its items. `stream` has the items of `judge --stream`.
+fn run_command<
+    I: Read + Drop,
     F: Sink,
     W: Sink,
-    R: Runtime + Threads + Wait + Sync + AllocGlobal + Copy + Drop + Send + 'static,
+    R: Threads + Wait + Sync + Eprint + Files + AllocGlobal + Copy + Drop + Send + 'static,
 >(
     rt: &R,
     context: SubcommandContext<'_, '_>,
+    command: Command<'_, '_>,
     input: &InputText<'_>,
+    stream: I,
     systems: SystemsResult,
     counts: &mut ItemResultCounts,
     to: &mut Destinations<F, W>,
 ) -> Status
-    requires { Stands F.broken W.broken to.old }
-    ensures { EndsWith (λ s. (System-box s).answers s.value) (λ s. (System-box s).fails s.value)
-        (λ s. (System-box s).reset_fails s.value) (made systems) (IsSome context.entry.signal.is_set)
-        F.taken F.broken W.taken W.broken input.now context.entry.subcommand to.old to.new result }
+    requires range { IsInRange command }
+    requires stands { Stands F.broken W.broken to.old }
+    ensures { Ends (Delivers F.taken F.broken W.taken W.broken to.old to.new) systems
+        (λ s. (System-box s).answers s.value) (λ s. (System-box s).fails s.value)
+        (λ s. (System-box s).reset_fails s.value) input.now (IsSome context.entry.signal.is_set)
+        (I.remaining stream) command.entry result }
 {
-    let SubcommandContext {
-        subcommand,
-        arguments,
-        terminals,
-        ..
-    } = context;
-    let plain = input.plain_input();
-    let notices = diagnostics::notices_in_check_output(rt.alloc(), context.matches, &plain);
-    let notices = notices.as_slice();
-    if let Some(command) = input_command_from_arguments(
-        rt,
-        subcommand,
-        arguments,
-        terminals,
-        plain.files,
-        notices,
-    ) {
-        return answer_input_command(rt, command, input, to);
-    }
-    match subcommand {
-        Subcommand::Judge => judge_items_of_files(rt, context, input, counts, to),
-        Subcommand::Run => drive_on_last_system(rt, context, input, systems, counts, to),
-        Subcommand::Campaign => run_campaign_subcommand(rt, context, systems, input, to),
-        _ => Status::Refused,
+    match command {
+        Command::OfInput(command) => answer_input_command(rt, command, input, to),
+        Command::Judge(options) => judge_items_of_files(rt, context, options, input, counts, to),
+        Command::Stream(order) => streaming::judge_stream_with_messages(
+            rt,
+            context.arguments,
+            context.terminals,
+            order,
+            input.plain(),
+            stream,
+            counts,
+            to,
+        ),
+        Command::Run(run) => drive_on_last_system(rt, context, run, input, systems, counts, to),
+        Command::Campaign(campaign) => run_campaign_on_systems(
+            rt, context, campaign, input, systems, to,
+        ),
     }
 }
 
-/// Judges the items of standard input with `--stream`, or else runs the subcommand.
-fn judge_stream_or_run_subcommand<
+/// Runs the command that the arguments choose, if what it needs beside its input is there. `stream` has the items of
+/// `judge --stream`.
+fn run_subcommand<
+    I: Read + Drop,
     F: Sink,
     W: Sink,
-    R: Runtime + Threads + Wait + Sync + AllocGlobal + Copy + Drop + Send + 'static,
+    R: Threads + Wait + Sync + Eprint + Files + Env + AllocGlobal + Copy + Drop + Send + 'static,
 >(
     rt: &R,
     context: SubcommandContext<'_, '_>,
     input: &InputText<'_>,
+    stream: I,
     systems: SystemsResult,
     counts: &mut ItemResultCounts,
     to: &mut Destinations<F, W>,
 ) -> Status
     requires { Stands F.broken W.broken to.old }
+    ensures { EndsSubcommand (Delivers F.taken F.broken W.taken W.broken to.old to.new) systems
+        (λ s. (System-box s).answers s.value) (λ s. (System-box s).fails s.value)
+        (λ s. (System-box s).reset_fails s.value) input.now (IsSome context.entry.signal.is_set)
+        (I.remaining stream) context.entry.subcommand context.entry.arguments.now (to.new ≡ to.old) result }
 {
-    if !streaming::is_item_stream_selected(context.matches) {
-        return run_subcommand(rt, context, input, systems, counts, to);
-    }
-    streaming::judge_standard_input_with_messages(
+    let plain = input.plain_input();
+    let notices = diagnostics::notices_in_check_output(rt.alloc(), context.matches, &plain);
+    let saver = match begin_campaign_if_systems_are_made(rt, context, &systems) {
+        Ok(Ok(saver)) => saver,
+        Ok(Err(status)) => return status,
+        Err(AllocError) => return refuse(Absence::NoMemory, to),
+    };
+    let notices = notices.as_slice();
+    let Some(command) = command_from_arguments(rt, context, plain.files, notices, saver.as_ref())
+    else {
+        return Status::Refused;
+    };
+    run_command(
         rt,
-        context.arguments,
-        context.terminals,
-        input.plain(),
+        context,
+        command,
+        input,
+        stream,
+        systems,
         counts,
         to,
     )
@@ -283,7 +266,8 @@ fn run_subcommand_to_chosen_output<
         }
     }
     let mut counts = ItemResultCounts::new();
-    let status = judge_stream_or_run_subcommand(rt, context, input, systems, &mut counts, &mut to);
+    let stream = rt.reader();
+    let status = run_subcommand(rt, context, input, stream, systems, &mut counts, &mut to);
     print_outcome_messages_unless_quiet(rt, context, input.plain_input(), status, &counts);
     let Destinations { file, out } = to;
     let (_, failure) = writer_and_error_if_failed(out);

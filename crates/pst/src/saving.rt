@@ -1,6 +1,7 @@
 //! Files of the failures of a campaign, with commands whose arguments are quoted as a shell reads them.
-ghost use Rattle.std.specs.Prelude.{◌≡◌, IfErr, IfOk};
-ghost use Rattle.pst_cli.specs.declared.answer.Status.TheVariants.{Lost};
+ghost use Rattle.std.specs.Prelude.{◌≡◌, ◌⊎◌, IfErr, IfOk, codes};
+ghost use Rattle.pst.specs.Commands.{IsGiven};
+ghost use Rattle.pst_cli.specs.declared.answer.Status.TheVariants.{Accepted, Lost};
 
 use crate::input::STANDARD_INPUT;
 use crate::outputs::print_file_error_to_stderr;
@@ -143,7 +144,8 @@ impl<'a> FailureSaver<'a> {
         seed: u64,
         name: &str,
     ) -> Result<Result<Option<FailureSaver<'a>>, Status>, AllocError>
-        ensures { IfOk result (λ begun. IfErr begun (λ status. status ≡ Lost)) }
+        ensures folder { IfOk result (λ begun. IfErr begun (λ status. (status ≡ Lost) × IsGiven arguments.now (codes "save"))) }
+        ensures memory { IfErr result (λ e. IsGiven arguments.now (codes "save")) }
     {
         let Some(folder) = arguments.get_str("save") else {
             return Ok(Ok(None));
@@ -190,7 +192,9 @@ impl<'a> FailureSaver<'a> {
         rt: &R,
         end: &CampaignEnd,
         is_quiet: bool,
-    ) -> Status {
+    ) -> Status
+        ensures { (result ≡ Accepted) ⊎ (result ≡ Lost) }
+    {
         let folder = self.folder;
         let count = match self.write_failures(rt, end) {
             Ok(count) => count,

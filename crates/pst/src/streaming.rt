@@ -8,7 +8,6 @@ use crate::input::STANDARD_INPUT;
 use crate::item_progress::ProgressDisplay;
 use crate::line_messages::{MOST_LINES, RefusedLineMessages};
 use crate::outputs::print_file_error_to_stderr;
-use crate::subcommands::order_for_recorded_runs_from_arguments;
 use crate::terminal::Terminals;
 use clap::ArgMatches;
 use pst_cli::{
@@ -18,7 +17,7 @@ use pst_cli::{
 use pst_rejudge::ReaderBlocks;
 use pst_sexpr::Sink;
 use std::alloc::Global;
-use std::io::{self, ErrorKind, Input, Read};
+use std::io::{self, ErrorKind, Read};
 use std::sync::Wait;
 use std::thread::Threads;
 
@@ -161,24 +160,30 @@ fn judge_stream_with_progress<
     (status, source.reader.failure)
 }
 
-/// Judges the items of standard input, one on each line, by the model at the beginning of `input`. If standard error is
-/// a terminal and standard output is not, a line displays how many are judged.
+/// Judges the items of a stream, one on each line, by the model at the beginning of `input`. If standard error is a
+/// terminal and standard output is not, a line displays how many are judged.
 /// Unless the arguments forbid messages, standard error has a message on each of the first refused lines, says how many
-/// others are refused, says if there are items after the model, which are not judged, and why standard input cannot be
-/// read, if that is so.
-pub fn judge_standard_input_with_messages<
+/// others are refused, says if there are items after the model, which are not judged, and why the stream cannot be read,
+/// if that is so.
+pub fn judge_stream_with_messages<
+    I: Read + Drop,
     F: Sink,
     W: Sink,
-    R: Threads + Wait + Sync + Input + Eprint + AllocGlobal + Copy + Drop + Send + 'static,
+    R: Threads + Wait + Sync + Eprint + AllocGlobal + Copy + Drop + Send + 'static,
 >(
     rt: &R,
     arguments: &ArgMatches<'_>,
     terminals: Terminals,
+    order: CallOrder,
     input: &[u8],
+    stream: I,
     counts: &mut ItemResultCounts,
     to: &mut Destinations<F, W>,
 ) -> Status
     requires { Stands F.broken W.broken to.old }
+    ensures { (bytes : List ℕ) → I.remaining stream ≡ Some bytes
+        → Reaches memory_line (IsStreamOutput ⊤ order input.now bytes)
+        (Delivers F.taken F.broken W.taken W.broken to.old to.new result) }
 {
     let alloc = rt.alloc();
     let is_quiet = arguments.get_flag("quiet");
@@ -193,8 +198,8 @@ pub fn judge_standard_input_with_messages<
         rt,
         has_progress_line,
         input,
-        order_for_recorded_runs_from_arguments(arguments),
-        rt.reader(),
+        order,
+        stream,
         counts,
         &mut messages,
         to,

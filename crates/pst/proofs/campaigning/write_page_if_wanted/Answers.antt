@@ -1,0 +1,5 @@
+use Rattle.pst.proofs.Endings.{lost_only_if}
+use Rattle.pst.proofs.campaigning.write_page_if_wanted.Goals as goal
+
+pub returns-in-Some : goal.returns-in-Some
+returns-in-Some g c = lost_only_if c.write_campaign_page.result (rw c.in-Some.is tt) c.write_campaign_page.ensures
