@@ -1,5 +1,6 @@
 -- What the clauses of run_command rest on.
-use Rattle.std.proofs.Common.{◌≡◌, ◌⊎◌, ◌∙◌, ◌==◌, inl, inr, ⊤, ℕ, Bool, true, List, Option, Result, Ok, eqb-true, refl, sym, vec_len}
+use Rattle.std.proofs.Common.{◌≡◌, ◌⊎◌, ◌∙◌, ◌==◌, inl, inr, ℕ, Bool, true, List, Result, Ok, eqb-true, refl, sym, vec_len}
+use Rattle.std.specs.Prelude.{⊤}
 use denote.Ref.{Bor}
 use Rattle.std.specs.declared.alloc.Global.{Global}
 use Rattle.std.specs.declared.vec.Vec.{Vec}

@@ -1,5 +1,5 @@
 -- What is read of options is what they give.
-use Rattle.std.proofs.Common.{◌≡◌, ◌∙◌, ◌<◌, ◌≤◌, ◌^◌, ℕ, List, Option, None, Some, Result, Ok, Err, arith, refl, sym}
+use Rattle.std.proofs.Common.{◌≡◌, ◌∙◌, ◌<◌, ◌≤◌, ◌^◌, ℕ, List, Option, None, Some, IfNone, Result, Ok, Err, arith, refl, sym}
 use Rattle.std.specs.Str.Parse.{IsNumeral, ParsesUnsigned, digits_value, without_leading_plus}
 use Rattle.clap.specs.Words.{ReadsOne}
 use Rattle.clap.specs.declared.parser.matches.ArgMatches.{ArgMatches}
@@ -32,7 +32,12 @@ is_read gives bits (Some text) None so none value =
         → IsNumeral 10 (without_leading_plus text) × (digits_value 10 (without_leading_plus text) < 2 ^ bits)
     same_text n s =
         let same : s.0 ≡ text = cc in
-        (rw same at s.2, rw (same, s.3) at s.4)
+        (rw same at s.2, rw same at (rw s.3 at s.4))
+
+-- what holds of no value
+pub if_none : {T : Type 0} (A : Type 0) (o : Option T) → A → IfNone o A
+if_none A None a = a
+if_none A (Some x) a = tt
 
 -- an option gives one number
 pub same_number : (bits : ℕ) (spelled : Option (List ℕ)) (n m : ℕ) → Spells bits spelled n → Spells bits spelled m → n ≡ m

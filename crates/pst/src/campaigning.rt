@@ -280,7 +280,13 @@ pub fn run_campaign_on_systems<
     }
     let (plain, signal) = (input.plain_input(), context.signal);
     let (status, end) = run_campaign_with_progress(
-        rt, context, campaign, plain.bytes, systems, signal, to,
+        rt,
+        context,
+        campaign,
+        plain.bytes,
+        systems,
+        signal,
+        to,
     );
     let has_messages = !context.arguments.get_flag("quiet") && !outputs::has_output_failed(to);
     let beside = write_beside_report(rt, context, campaign, plain, has_messages, &end);

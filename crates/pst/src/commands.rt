@@ -2,6 +2,7 @@
 ghost use Rattle.std.specs.Prelude.{◌≡◌, IfNone, IfSome};
 ghost use Rattle.pst.specs.Answering.{HasTrials};
 ghost use Rattle.pst.specs.Commands.{ChoosesNone, IsInRange, MayChoose, subcommand_of_input};
+ghost use Rattle.pst.specs.Numbers.{GivesTrials, LacksTrials};
 ghost use Rattle.pst.specs.declared.subcommands.Subcommand.TheVariants as subcommand;
 ghost use Rattle.pst_trial.specs.Settings.{AreInRange};
 
@@ -15,7 +16,6 @@ use crate::subcommands::{
     output_form_from_arguments,
 };
 use crate::systems::system_name_from_arguments_or_empty;
-use crate::terminal::Terminals;
 use crate::{driving, formatting, judging};
 use clap::ArgMatches;
 use pst_cli::{CallOrder, DriveOptions, JudgeOptions, OutputForm};
@@ -61,32 +61,17 @@ pub struct CampaignCommand<'m, 'a> {
     pub saver: Option<&'a FailureSaver<'m>>,
 }
 
-/// Returns the command that the arguments choose, if it needs nothing but its input. `notices` are part of the output of `check`.
-fn input_command_from_arguments<'a, R: Env + AllocGlobal>(
-    rt: &R,
-    subcommand: Subcommand,
+/// Returns how the arguments choose to check a model. `notices` are part of the output.
+fn check_command_from_arguments<'a>(
     arguments: &ArgMatches<'_>,
-    terminals: Terminals,
-    files: &'a [SourceFile<'a>],
     notices: &'a [u8],
-) -> Option<InputCommand<'a>>
-    ensures trials { IfSome result HasTrials }
-    ensures subcommand { IfSome result (λ command. subcommand_of_input command ≡ subcommand) }
+) -> InputCommand<'a>
+    ensures trials { HasTrials result }
+    ensures subcommand { subcommand_of_input result ≡ subcommand.Check }
 {
-    match subcommand {
-        Subcommand::Check => Some(InputCommand::Check {
-            form: output_form_from_arguments(arguments),
-            notices,
-        }),
-        Subcommand::List => Some(InputCommand::ListCode),
-        Subcommand::Convert => Some(InputCommand::Convert(formatting::item_form_from_arguments(
-            arguments,
-        ))),
-        Subcommand::Generate => generate_command_from_arguments(arguments),
-        Subcommand::Explain => Some(explain_command_from_arguments(
-            rt, arguments, terminals, files,
-        )),
-        Subcommand::Judge | Subcommand::Run | Subcommand::Campaign => None,
+    InputCommand::Check {
+        form: output_form_from_arguments(arguments),
+        notices,
     }
 }
 
@@ -102,12 +87,22 @@ fn judge_command_from_arguments(arguments: &ArgMatches<'_>) -> Command<'static, 
     }
 }
 
+/// Returns how the arguments choose to drive items.
+fn run_command_from_arguments<'m>(arguments: &ArgMatches<'m>) -> RunCommand<'m> {
+    RunCommand {
+        system: system_name_from_arguments_or_empty(arguments),
+        options: driving::drive_options_from_arguments(arguments),
+    }
+}
+
 /// Returns which campaign the arguments choose. `saver` saves its failures.
 fn campaign_command_from_arguments<'m, 'a>(
     arguments: &ArgMatches<'m>,
     saver: Option<&'a FailureSaver<'m>>,
 ) -> Option<CampaignCommand<'m, 'a>>
-    ensures { IfSome result (λ campaign. AreInRange campaign.settings) }
+    ensures range { IfSome result (λ campaign. AreInRange campaign.settings) }
+    ensures given { IfSome result (λ campaign. GivesTrials arguments.now campaign.settings) }
+    ensures none { IfNone result (LacksTrials arguments.now) }
 {
     let settings = campaign_settings_from_arguments(arguments)?;
     Some(CampaignCommand {
@@ -120,7 +115,7 @@ fn campaign_command_from_arguments<'m, 'a>(
     })
 }
 
-/// Returns the command that the arguments choose. `None` only if a number is missing or out of its range, for which the
+/// Returns the command that the arguments choose. `None` only if their numbers give no settings in their ranges, for which the
 /// parser of the arguments refuses them. `files` have the input, `notices` are part of the output of `check`, and `saver`
 /// saves the failures of a campaign.
 pub fn command_from_arguments<'m, 'a, R: Env + AllocGlobal>(
@@ -134,23 +129,26 @@ pub fn command_from_arguments<'m, 'a, R: Env + AllocGlobal>(
     ensures choice { IfSome result (MayChoose context.entry.subcommand context.entry.arguments.now) }
     ensures none { IfNone result (ChoosesNone context.entry.subcommand context.entry.arguments.now) }
 {
-    let SubcommandContext {
-        subcommand,
-        arguments,
-        terminals,
-        ..
-    } = context;
-    match subcommand {
+    let arguments = context.arguments;
+    match context.subcommand {
+        Subcommand::Check => Some(Command::OfInput(check_command_from_arguments(
+            arguments, notices,
+        ))),
+        Subcommand::List => Some(Command::OfInput(InputCommand::ListCode)),
+        Subcommand::Convert => Some(Command::OfInput(InputCommand::Convert(
+            formatting::item_form_from_arguments(arguments),
+        ))),
+        Subcommand::Generate => Some(Command::OfInput(generate_command_from_arguments(arguments)?)),
+        Subcommand::Explain => Some(Command::OfInput(explain_command_from_arguments(
+            rt,
+            arguments,
+            context.terminals,
+            files,
+        ))),
         Subcommand::Judge => Some(judge_command_from_arguments(arguments)),
-        Subcommand::Run => Some(Command::Run(RunCommand {
-            system: system_name_from_arguments_or_empty(arguments),
-            options: driving::drive_options_from_arguments(arguments),
-        })),
+        Subcommand::Run => Some(Command::Run(run_command_from_arguments(arguments))),
         Subcommand::Campaign => Some(Command::Campaign(campaign_command_from_arguments(
             arguments, saver,
-        )?)),
-        _ => Some(Command::OfInput(input_command_from_arguments(
-            rt, subcommand, arguments, terminals, files, notices,
         )?)),
     }
 }

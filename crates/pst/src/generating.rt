@@ -1,7 +1,8 @@
 //! `pst generate`.
-ghost use Rattle.std.specs.Prelude.{◌≡◌, IfSome};
+ghost use Rattle.std.specs.Prelude.{◌≡◌, ◌⊎◌, IfNone, IfSome};
 ghost use Rattle.pst.specs.Answering.{HasTrials};
 ghost use Rattle.pst.specs.Commands.{subcommand_of_input};
+ghost use Rattle.pst.specs.Numbers.{GivesNumbers, LacksCases, LacksRange};
 ghost use Rattle.pst.specs.declared.subcommands.Subcommand.TheVariants as subcommand;
 
 use crate::answering::InputCommand;
@@ -45,10 +46,12 @@ pub fn refuse_generate_trial_numbers_that_overflow<R: Eprint>(
 pub fn generate_command_from_arguments(arguments: &ArgMatches<'_>) -> Option<InputCommand<'static>>
     ensures trials { IfSome result HasTrials }
     ensures subcommand { IfSome result (λ command. subcommand_of_input command ≡ subcommand.Generate) }
+    ensures given { IfSome result (GivesNumbers arguments.now) }
+    ensures none { IfNone result (LacksCases arguments.now ⊎ LacksRange arguments.now) }
 {
     let settings = subcommands::settings_for_generate_from_arguments(arguments)?;
-    let first: u64 = arguments.get_one("first")?;
-    let trials: u64 = arguments.get_one("trials")?;
+    let first = subcommands::long_number_from_arguments(arguments, "first")?;
+    let trials = subcommands::long_number_from_arguments(arguments, "trials")?;
     Some(InputCommand::Generate {
         form: case_form_from_arguments(arguments),
         settings,

@@ -186,16 +186,7 @@ fn run_subcommand<
     else {
         return Status::Refused;
     };
-    run_command(
-        rt,
-        context,
-        command,
-        input,
-        stream,
-        systems,
-        counts,
-        to,
-    )
+    run_command(rt, context, command, input, stream, systems, counts, to)
 }
 
 /// Writes messages on refusals, warnings on a model that `check` accepts, and a line that sums up the items,

@@ -10,7 +10,10 @@ pub use options::{
     order_for_recorded_runs_from_arguments, order_for_systems_from_arguments,
     order_option_for_recorded_runs, output_form_from_arguments, output_option, quiet_option,
 };
-pub use plan::{campaign_settings_from_arguments, settings_for_generate_from_arguments};
+pub use plan::{
+    campaign_settings_from_arguments, long_number_from_arguments,
+    settings_for_generate_from_arguments,
+};
 use std::alloc::{AllocError, Global};
 
 /// The subcommands that have an input and an output.

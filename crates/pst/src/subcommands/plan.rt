@@ -1,6 +1,8 @@
 //! The numbers of a campaign's plan: their options, and the settings that they give.
 
-ghost use Rattle.std.specs.Prelude.{IfSome};
+ghost use Rattle.std.specs.Prelude.{IfNone, IfSome};
+ghost use Rattle.clap.specs.Words.{found_of, one_text};
+ghost use Rattle.pst.specs.Numbers.{GivesCases, GivesTrials, IsRead, LacksCases, LacksTrials};
 ghost use Rattle.pst_trial.specs.Settings.{AreInRange};
 
 use crate::subcommands::options::order_for_systems_from_arguments;
@@ -145,16 +147,27 @@ pub fn add_generate_number_options<'a>(
 }
 
 /// The number of an option.
-fn number_from_arguments(arguments: &ArgMatches<'_>, name: &str) -> Option<u32> {
+fn number_from_arguments(arguments: &ArgMatches<'_>, name: &str) -> Option<u32>
+    ensures { IsRead 32 (one_text (found_of arguments.now) name.now) result }
+{
+    arguments.get_one(name)
+}
+
+/// The number of an option that takes 64 bits.
+pub fn long_number_from_arguments(arguments: &ArgMatches<'_>, name: &str) -> Option<u64>
+    ensures { IsRead 64 (one_text (found_of arguments.now) name.now) result }
+{
     arguments.get_one(name)
 }
 
 /// The settings that the arguments of `generate` give: no trial is driven with them. Each was found to be in its range.
 pub fn settings_for_generate_from_arguments(arguments: &ArgMatches<'_>) -> Option<Settings>
-    ensures { IfSome result AreInRange }
+    ensures range { IfSome result AreInRange }
+    ensures given { IfSome result (GivesCases arguments.now) }
+    ensures none { IfNone result (LacksCases arguments.now) }
 {
     let settings = Settings {
-        seed: arguments.get_one("seed")?,
+        seed: long_number_from_arguments(arguments, "seed")?,
         trials: 0,
         commands: number_from_arguments(arguments, "commands")?,
         branches: number_from_arguments(arguments, "branches")?,
@@ -172,10 +185,12 @@ pub fn settings_for_generate_from_arguments(arguments: &ArgMatches<'_>) -> Optio
 
 /// The settings that the arguments of `campaign` give. Each has a default and was found to be in its range.
 pub fn campaign_settings_from_arguments(arguments: &ArgMatches<'_>) -> Option<Settings>
-    ensures { IfSome result AreInRange }
+    ensures range { IfSome result AreInRange }
+    ensures given { IfSome result (GivesTrials arguments.now) }
+    ensures none { IfNone result (LacksTrials arguments.now) }
 {
     let settings = Settings {
-        seed: arguments.get_one("seed")?,
+        seed: long_number_from_arguments(arguments, "seed")?,
         trials: number_from_arguments(arguments, "trials")?,
         commands: number_from_arguments(arguments, "commands")?,
         branches: number_from_arguments(arguments, "branches")?,

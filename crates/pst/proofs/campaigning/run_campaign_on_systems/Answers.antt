@@ -11,7 +11,7 @@ returns-then-is_empty g c =
     inr (inr (
       NoSystem c.args.campaign.system,
       is_absence_by c.in-Ok.systems c.args.campaign.system c.is_empty.result c.in-Ok.ensures.made c.is_empty.ensures c.if-is_empty.true,
-      c.refuse.ensures,
+      c.refuse-then-is_empty.ensures,
     ))
 
 pub returns : goal.returns

@@ -1,5 +1,6 @@
+use Rattle.std.proofs.Common.{refl}
 use Rattle.pst.proofs.Endings.{lost_only_if}
 use Rattle.pst.proofs.campaigning.write_page_if_wanted.Goals as goal
 
 pub returns-in-Some : goal.returns-in-Some
-returns-in-Some g c = lost_only_if c.write_campaign_page.result (rw c.in-Some.is tt) c.write_campaign_page.ensures
+returns-in-Some g c = lost_only_if c.write_campaign_page.result (rw c.in-Some.is refl) c.write_campaign_page.ensures

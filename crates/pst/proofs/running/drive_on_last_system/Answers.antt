@@ -8,11 +8,13 @@ returns-in-Err g c = inr (c.in-Err.why, c.in-Err.ensures.absent, c.refuse.ensure
 
 pub returns-in-None : goal.returns-in-None
 returns-in-None g c =
-    inr (NoSystem c.args.run.system, is_absence c.in-Ok.systems c.args.run.system c.in-Ok.ensures.made c.in-None.ensures.cases.0, c.refuse.ensures)
+    inr (NoSystem c.args.run.system, is_absence c.in-Ok.systems c.args.run.system c.in-Ok.ensures.made c.in-None.ensures.cases.0, c.refuse-in-None.ensures)
 
 pub returns : goal.returns
 returns g c =
     inl (
-      c.pop.new.self.items, c.in-Some.system, are_made c.in-Ok.systems _ c.in-Ok.ensures.made c.in-Some.ensures.items,
-      drives_meant _ _ _ c.plain.ensures _ _ _ _ c.drive_with_messages.ensures,
+      c.pop.new.self.items,
+      c.in-Some.system,
+      are_made c.in-Ok.systems _ c.in-Ok.ensures.made c.in-Some.ensures.items,
+      drives_meant _ _ _ c.plain-plain.ensures _ _ _ _ c.drive_with_messages.ensures,
     )
