@@ -1,5 +1,7 @@
 #!/usr/bin/env python3
-"""Ctrl-C during a campaign: interrupted.py PST, where PST is the launcher. The signal goes to the group of processes, as from a terminal."""
+"""Ctrl-C and TERM during a campaign: interrupted.py PST, where PST is the launcher. A signal goes to the group of processes, as from a terminal
+or from `timeout`.
+"""
 import os, re, signal, subprocess, sys, tempfile, time
 
 TOP = os.path.dirname(os.path.dirname(os.path.abspath(__file__)))
@@ -16,8 +18,13 @@ for line in sys.stdin:
     n += name == "inc"
     print("null" if name == "reset" else n, flush=True)
 """
-NOTICE = "pst: the campaign ends after the trials that run; Ctrl-C again ends it at once, without a report\n"
+NAMES = {signal.SIGINT: "Ctrl-C again", signal.SIGTERM: "TERM again, or ten seconds,"}
 passed = failed = 0
+
+
+def notice_of(number):
+    """What is said at the first signal of this number."""
+    return f"pst: the campaign ends after the trials that run; {NAMES[number]} ends it at once, without a report\n"
 
 
 def check(name, is_right, *shown):
@@ -30,18 +37,20 @@ def check(name, is_right, *shown):
         print(f"interrupted: {name}:", *shown)
 
 
-def campaign(pst, room, arguments, signals, begun):
-    """Runs a campaign, interrupts it so often once it has begun, and returns its status, its report and its messages."""
+def campaign(pst, room, arguments, number, signals, begun):
+    """Runs a campaign, sends it the signal so often once it has begun, and returns its status, its report and its messages."""
     command = [pst, "campaign", *arguments, MODEL, "--trials", "100000", "--repeats", "20", "--branches", "1"]
-    reset = lambda: signal.signal(signal.SIGINT, signal.SIG_DFL)
+    reset = lambda: signal.signal(number, signal.SIG_DFL)
     with open(f"{room}/errors", "w+") as errors:
         ran = subprocess.Popen(command, cwd=room, stdin=subprocess.DEVNULL, stdout=subprocess.PIPE, stderr=errors, text=True, start_new_session=True, preexec_fn=reset)
         deadline = time.time() + 60
         while not begun() and time.time() < deadline:
             time.sleep(0.05)
         for at in range(signals):
-            os.killpg(ran.pid, signal.SIGINT)
-            while at + 1 < signals and NOTICE not in open(f"{room}/errors").read() and time.time() < deadline:
+            if at and number == signal.SIGTERM:
+                time.sleep(3)  # one that comes sooner may be of `timeout`, which sends two
+            os.killpg(ran.pid, number)
+            while at + 1 < signals and notice_of(number) not in open(f"{room}/errors").read() and time.time() < deadline:
                 time.sleep(0.05)
         report, _ = ran.communicate(timeout=60)
         errors.seek(0)
@@ -53,27 +62,38 @@ def counts(report):
     return [int(re.search(rf"^{word} (\d+)$", report, re.M).group(1)) if report else -1 for word in ("passed", "undrawn")]
 
 
+def check_signal(pst, room, number):
+    """Checks what a campaign does at a signal, and at a second one."""
+    name, notice = number.name, notice_of(number)
+    began = time.time()
+    status, report, errors = campaign(pst, room, ["-q", "counter"], number, 1, lambda: time.time() > began + 2)
+    done, undrawn = counts(report)
+    check(f"{name} on a sample system, quiet", status == 3 and done + undrawn == 100000 and undrawn > 0 and not errors, status, report, errors)
+
+    if number == signal.SIGTERM:
+        ran = subprocess.run(["timeout", "10", pst, "campaign", "counter", MODEL, "--trials", "100000", "--repeats", "20"], capture_output=True, text=True)
+        check("timeout ends a campaign", ran.returncode == 124 and sum(counts(ran.stdout)) == 100000, ran.returncode, ran.stdout, ran.stderr)
+
+    for pause, signals in ((0.01, 1), (60, 2), *[(60, 1)] * (number == signal.SIGTERM)):
+        with open(f"{room}/client.py", "w") as file:
+            file.write(CLIENT.replace("PAUSE", str(pause)))
+        has_begun = lambda: os.path.exists(f"{room}/called")
+        arguments = ["--client", "python3 client.py", "--workers", "2", "--save", "saved"]
+        status, report, errors = campaign(pst, room, arguments, number, signals, has_begun)
+        os.remove(f"{room}/called")
+        done, undrawn = counts(report)
+        if pause < 1:
+            check(f"{name} on clients", status == 3 and done + undrawn == 100000 and notice in errors, status, report, errors)
+        else:
+            check(f"{name} {signals} times on a call that hangs", status == 128 + number and not report and errors.startswith(notice), status, report, errors)
+
+
 def main(pst):
     pst = os.path.abspath(pst)
     with tempfile.TemporaryDirectory() as room:
         os.environ["TMPDIR"] = room
-        began = time.time()
-        status, report, errors = campaign(pst, room, ["-q", "counter"], 1, lambda: time.time() > began + 2)
-        done, undrawn = counts(report)
-        check("a sample system, quiet", status == 3 and done + undrawn == 100000 and undrawn > 0 and not errors, status, report, errors)
-
-        for pause, signals in ((0.01, 1), (60, 2)):
-            with open(f"{room}/client.py", "w") as file:
-                file.write(CLIENT.replace("PAUSE", str(pause)))
-            has_begun = lambda: os.path.exists(f"{room}/called")
-            arguments = ["--client", "python3 client.py", "--workers", "2", "--save", "saved"]
-            status, report, errors = campaign(pst, room, arguments, signals, has_begun)
-            os.remove(f"{room}/called")
-            done, undrawn = counts(report)
-            if signals == 1:
-                check("clients", status == 3 and done + undrawn == 100000 and NOTICE in errors, status, report, errors)
-            else:
-                check("a second time", status == 130 and not report and errors.startswith(NOTICE), status, report, errors)
+        for number in NAMES:
+            check_signal(pst, room, number)
         left = [name for name in os.listdir(room) if name.startswith("tmp.")]
         check("nothing is left", not left, left)
     print(f"{passed} checks passed, {failed} failed")

@@ -25,6 +25,7 @@ mod preconditions;
 mod scripts;
 mod spelling;
 mod unclosed;
+mod unread_results;
 mod untrue_precondition;
 mod warning;
 

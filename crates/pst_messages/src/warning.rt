@@ -4,6 +4,7 @@ use crate::faults::faulty_scripts_warning_if_any;
 use crate::item_hints::is_model_tree;
 use crate::missing_keys::warnings_on_missing_keys;
 use crate::scripts::{COMMANDS, SCRIPTS, generate_and_summarize_scripts};
+use crate::unread_results::warnings_on_unread_results;
 use pst_compile::{Compiled, compile};
 use pst_model::Item;
 use pst_sexpr::Tree;
@@ -145,7 +146,8 @@ fn add_further_model_warnings(
 
 /// Warnings on an input whose model is accepted: scripts in which a callback faults, an operation that no generated
 /// script calls, a model in whose initial state no call may be made, a postcondition that reads a key which the map may not
-/// have, and a second model after the first. There are no warnings if the model is refused.
+/// have, postconditions none of which looks at the result, and a second model after the first. There are no warnings if the
+/// model is refused.
 ///
 /// The function generates at most sixteen scripts of at most sixteen commands, always of the same random words, and
 /// their callbacks take a bounded number of steps. If a callback faults in one of them, or the steps do not suffice for
@@ -161,6 +163,8 @@ pub fn input_warning_notices(alloc: Global, input: &Input<'_>) -> Result<Notices
     if let Some(tree) = trees.first() {
         let items = compiled.typed().source().items.as_slice();
         let mut more = warnings_on_missing_keys(alloc, input, items, tree.form())?;
+        all.append(&mut more)?;
+        let mut more = warnings_on_unread_results(alloc, input, tree.form())?;
         all.append(&mut more)?;
     }
     add_further_model_warnings(alloc, input, trees.as_slice(), &mut all)?;
