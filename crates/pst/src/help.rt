@@ -90,8 +90,8 @@ Examples:
 The report is on standard output; `pst help verdicts` explains its lines. Standard error then explains the failure with
 the fewest calls, and the first trial without a case; -q leaves this out.
 
-A campaign that ends early, by --max-failures, --stop-file or Ctrl-C, finishes the trials that run, and its report counts the
-others as undrawn.
+A campaign that ends early, by --max-failures, --stop-file, Ctrl-C or TERM, finishes the trials that run, and its report counts
+the others as undrawn.
 
 Exit status: 0 if all trials passed, 1 if some trial did not, 2 if the input is refused, 3 if a trial was lost, the campaign
 ended early and no trial failed, an allocation failed or the output cannot be written.";

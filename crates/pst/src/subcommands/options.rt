@@ -224,7 +224,7 @@ pub fn stop_file_option<'a>(alloc: Global) -> Arg<'a> {
     Arg::new(alloc, "stop-file")
         .long("stop-file")
         .value_name("FILE")
-        .help("Ends the campaign, with its report, once there is a FILE; Ctrl-C makes one")
+        .help("Ends the campaign, with its report, once there is a FILE; Ctrl-C or TERM makes one")
 }
 
 /// The option that saves failures.
