@@ -24,7 +24,7 @@ complete -c pst -n "__fish_seen_subcommand_from explain" -l all -d "the whole se
 complete -c pst -n "__fish_seen_subcommand_from explain" -l max -x -d "the most items"
 complete -c pst -n "__fish_seen_subcommand_from judge" -l stream -d "judge lines of standard input as they come"
 complete -c pst -n "__fish_seen_subcommand_from judge" -l keep-going -d "judge the items after a refused one"
-complete -c pst -n "__fish_seen_subcommand_from explain" -l width -x -d "columns"
+complete -c pst -n "__fish_seen_subcommand_from campaign run explain" -l width -x -d "columns"
 complete -c pst -n "__fish_seen_subcommand_from explain" -l dot -d "a graph for Graphviz"
 complete -c pst -n "__fish_seen_subcommand_from explain" -l item -x -d "the item"
 complete -c pst -n "__fish_seen_subcommand_from convert" -l to -x -a "json trees" -d "how items are spelled"

@@ -2,7 +2,7 @@
 
 use crate::outputs::print_file_error_to_stderr;
 use crate::preparing::PreparedInput;
-use crate::stop_signals::{SideTask, SideThread, stop_file_name_from_arguments};
+use crate::stop_signals::{SideTask, SideThread};
 use crate::systems::{
     ChosenSystems, SystemsError, system_in_box, systems_and_count_from_arguments,
 };
@@ -15,6 +15,7 @@ use pst_value::{Items, Ty};
 use std::alloc::{AllocError, Global};
 use std::io::{self, BufReader, ErrorKind};
 use std::rt::Files;
+use std::sync::atomic::{AtomicBool, Ordering};
 use std::sync::{Arc, Wait};
 use std::thread::Threads;
 
@@ -109,6 +110,9 @@ const FIRST: u64 = 5;
 
 /// The number of resets in a row that fail before a line is written of them, once.
 const MANY: u64 = 5;
+
+/// The number of resets in a row that fail before the campaign ends.
+const MOST: u64 = 20;
 
 /// A client, as it was a second ago.
 #[derive(Clone, Copy, Drop)]
@@ -210,10 +214,38 @@ struct WatchedClients {
     alloc: Global,
     notes: SharedClientNotes,
     timers: Vec<SilenceTimer>,
-    /// Whether a file ends the campaign.
-    has_stop_file: bool,
+    /// The flag that ends the campaign, if there is one.
+    stop: Option<Arc<AtomicBool>>,
+    /// Whether the arguments forbid messages.
+    is_quiet: bool,
     /// Whether it has reported that resets fail.
     has_reported_resets: bool,
+}
+
+impl WatchedClients {
+    /// Reports the clients that are silent for long and, once, that resets fail, if `failed` of them failed in a row.
+    fn report<R: Eprint>(&mut self, rt: &R, failed: u64) {
+        let timers = self.timers.as_mut_slice();
+        count_second_and_report_silent_clients(rt, self.alloc, self.notes.waits(), timers);
+        if !self.has_reported_resets && failed >= MANY {
+            self.has_reported_resets = true;
+            print_that_resets_fail(rt, self.stop.is_some());
+        }
+    }
+
+    /// Ends the campaign, if a flag does.
+    fn end_campaign<R: Eprint>(&self, rt: &R) {
+        let Some(stop) = &self.stop else {
+            return;
+        };
+        if stop.load(Ordering::SeqCst) {
+            return;
+        }
+        stop.store(true, Ordering::SeqCst);
+        if !self.is_quiet {
+            let _ = eprintln!(rt; "pst: the reset failed {MOST} times in a row: the campaign ends");
+        }
+    }
 }
 
 impl SideTask for WatchedClients {
@@ -221,48 +253,56 @@ impl SideTask for WatchedClients {
         PAUSE
     }
 
-    /// Reports the clients that are silent for long and, once, that resets fail, if `MANY` failed in a row.
+    /// Reports what goes wrong with the clients, and ends the campaign if `MOST` resets failed in a row.
     fn turn<R: Eprint>(&mut self, rt: &R, _milliseconds: u64) {
-        let notes = &self.notes;
-        let timers = self.timers.as_mut_slice();
-        count_second_and_report_silent_clients(rt, self.alloc, notes.waits(), timers);
-        if !self.has_reported_resets && notes.failed_resets_since_last_success() >= MANY {
-            self.has_reported_resets = true;
-            print_that_resets_fail(rt, self.has_stop_file);
+        let failed = self.notes.failed_resets_since_last_success();
+        if !self.is_quiet {
+            self.report(rt, failed);
+        }
+        if failed >= MOST {
+            self.end_campaign(rt);
         }
     }
 }
 
-/// What the thread that watches the clients of some notes knows, if the arguments name clients and do not forbid
-/// messages.
-fn watched_clients_if_any_unless_quiet(
+/// Another owner of a flag, if there is one.
+fn share_flag(flag: &Option<Arc<AtomicBool>>) -> Option<Arc<AtomicBool>> {
+    flag.as_ref()?.clone().ok()
+}
+
+/// What the thread that watches the clients of some notes knows, if the arguments name clients.
+fn watched_clients_if_any(
     alloc: Global,
     matches: &ArgMatches<'_>,
     notes: &SharedClientNotes,
+    stop: &Option<Arc<AtomicBool>>,
 ) -> Option<WatchedClients> {
     let (_, arguments) = matches.subcommand()?;
     match systems_and_count_from_arguments(matches)? {
-        (ChosenSystems::Clients(_), _) if !arguments.get_flag("quiet") => Some(WatchedClients {
+        (ChosenSystems::Clients(_), _) => Some(WatchedClients {
             alloc,
             notes: Arc::try_clone(notes).ok()?,
             timers: new_silence_timers(alloc, notes.waits().len()).ok()?,
-            has_stop_file: stop_file_name_from_arguments(matches).is_some(),
+            stop: share_flag(stop),
+            is_quiet: arguments.get_flag("quiet"),
             has_reported_resets: false,
         }),
         _ => None,
     }
 }
 
-/// Watches the clients that the arguments name, if there is a thread for it, unless they name none or forbid messages.
-pub fn start_client_watch_unless_quiet<R: Threads + Wait + Eprint + Copy + Drop + Send + 'static>(
+/// Watches the clients that the arguments name, if there are some and a thread for it. If `MOST` resets fail in a row, the
+/// thread sets the flag that ends the campaign.
+pub fn start_client_watch<R: Threads + Wait + Eprint + Copy + Drop + Send + 'static>(
     rt: &R,
     alloc: Global,
     matches: &ArgMatches<'_>,
     notes: &SharedClientNotes,
+    stop: &Option<Arc<AtomicBool>>,
 ) -> Option<SideThread> {
     SideThread::start(
         rt,
         alloc,
-        watched_clients_if_any_unless_quiet(alloc, matches, notes)?,
+        watched_clients_if_any(alloc, matches, notes, stop)?,
     )
 }

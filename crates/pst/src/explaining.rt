@@ -5,7 +5,7 @@ ghost use Rattle.pst.specs.Commands.{subcommand_of_input};
 ghost use Rattle.pst.specs.declared.subcommands.Subcommand.TheVariants as subcommand;
 
 use crate::answering::InputCommand;
-use crate::terminal::{self, LEAST_WIDTH, MOST_WIDTH, Terminals};
+use crate::terminal::{self, Terminals};
 use crate::{help, subcommands};
 use clap::builder::ValueParser;
 use clap::{Arg, ArgAction, ArgMatches, Command};
@@ -14,15 +14,6 @@ use pst_sexpr::MAX_BYTES;
 use pst_sources::SourceFile;
 use std::alloc::{AllocError, Global};
 use std::rt::Env;
-
-/// The option that gives the width of lines.
-fn line_width_option<'a>(alloc: Global) -> Arg<'a> {
-    Arg::new(alloc, "width")
-        .long("width")
-        .value_name("N")
-        .value_parser(ValueParser::Unsigned(LEAST_WIDTH, MOST_WIDTH))
-        .help("The width of lines, from 20 to 1000; else that of COLUMNS, or 80")
-}
 
 /// The forms of explanations.
 const FORMS: [&str; 4] = ["text", "json", "html", "dot"];
@@ -87,7 +78,7 @@ fn clap_explain_command_with_form_options<'a>(alloc: Global) -> Result<Command<'
         .arg(explanation_format_option(alloc))?
         .arg(dot_graph_option(alloc)?)?
         .arg(whole_search_option(alloc))?
-        .arg(line_width_option(alloc))?
+        .arg(subcommands::line_width_option(alloc))?
         .arg(terminal::color_option(alloc))
 }
 

@@ -17,7 +17,7 @@ use crate::result_file::{
 use crate::stop_signals::{StopFileState, StopFileWatch, StopFlag};
 use crate::subcommands::Subcommand;
 use crate::systems::SystemsError;
-use crate::terminal::{Terminals, line_width_of_environment_or_default};
+use crate::terminal::{Terminals, line_width_from_arguments_or_environment};
 use crate::{clients, diagnostics, driving, judging, stop_signals, streaming, summary};
 use clap::ArgMatches;
 use pst_cli::{Absence, Destinations, ItemResultCounts, JudgeOptions, Status, refuse};
@@ -29,6 +29,7 @@ use std::alloc::{AllocError, Global};
 use std::fs::symlink_metadata;
 use std::io::{self, Read};
 use std::rt::{Env, Files, Runtime};
+use std::sync::atomic::AtomicBool;
 use std::sync::{Arc, Wait};
 use std::thread::{JoinHandle, Threads};
 use std::time::Clock;
@@ -271,8 +272,8 @@ fn run_subcommand_to_chosen_output<
     }
 }
 
-/// Runs the subcommand, while a thread looks for clients that do not answer. Then standard error has the notes of the
-/// clients, unless the arguments forbid it.
+/// Runs the subcommand, while a thread looks for clients that do not answer, and ends a campaign by the flag `stop` if no
+/// reset succeeds. Then standard error has the notes of the clients, unless the arguments forbid it.
 fn run_subcommand_while_watching_clients<
     R: Runtime + AllocGlobal + Threads + Wait + Sync + Copy + Drop + Send + 'static,
 >(
@@ -281,7 +282,7 @@ fn run_subcommand_while_watching_clients<
     prepared: &PreparedInput<'_>,
     terminals: Terminals,
     systems: SystemsResult,
-    signal: StopFlag<'_>,
+    stop: &Option<Arc<AtomicBool>>,
 ) -> Status {
     let Some((name, arguments)) = matches.subcommand() else {
         return Status::Refused;
@@ -296,20 +297,23 @@ fn run_subcommand_while_watching_clients<
         arguments,
         files: prepared.input.files(),
         misfits: prepared.misfits.as_deref(),
-        signal,
+        signal: StopFlag {
+            is_set: stop.as_deref(),
+        },
         terminals: if is_in_file {
             terminals.with_output_in_a_file()
         } else {
             terminals
         },
-        line_width: line_width_of_environment_or_default(&rt),
+        line_width: line_width_from_arguments_or_environment(&rt, arguments),
     };
-    let watch = clients::start_client_watch_unless_quiet(&rt, rt.alloc(), matches, &prepared.notes);
+    let notes = &prepared.notes;
+    let watch = clients::start_client_watch(&rt, rt.alloc(), matches, notes, stop);
     let status = run_subcommand_to_chosen_output(&rt, context, &prepared.input, systems);
     if let Some(watch) = watch {
         watch.end_and_wait(&rt);
     }
-    clients::print_client_notes_unless_quiet(&rt, matches, &prepared.notes);
+    clients::print_client_notes_unless_quiet(&rt, matches, notes);
     status
 }
 
@@ -334,11 +338,13 @@ pub fn run_subcommand_while_watching<
         return diagnostics::print_memory_refusal(&rt);
     };
     let watch = StopFileWatch::start_if_file_is_named(alloc, matches, &has_appeared, start_thread);
-    let signal = StopFlag {
-        is_set: has_appeared.as_deref(),
-    };
     let status = run_subcommand_while_watching_clients(
-        rt, matches, prepared, terminals, systems, signal,
+        rt,
+        matches,
+        prepared,
+        terminals,
+        systems,
+        &has_appeared,
     );
     if let Some(watch) = watch {
         watch.end_thread_and_wait(&rt);

@@ -6,8 +6,8 @@ mod plan;
 use crate::{explaining, formatting, help, page};
 use clap::Command;
 pub use options::{
-    is_client_option_given, is_json_selected, model_and_items_files_argument, only_failures_option,
-    order_for_recorded_runs_from_arguments, order_for_systems_from_arguments,
+    is_client_option_given, is_json_selected, line_width_option, model_and_items_files_argument,
+    only_failures_option, order_for_recorded_runs_from_arguments, order_for_systems_from_arguments,
     order_option_for_recorded_runs, output_form_from_arguments, output_option, quiet_option,
 };
 pub use plan::{
@@ -117,6 +117,7 @@ fn clap_command_for_run<'a>(alloc: Global) -> Result<Command<'a>, AllocError> {
         .arg(options::repeats_option(alloc))?
         .arg(options::order_option_for_systems(alloc))?
         .arg(options::text_or_json_format_option(alloc))?
+        .arg(line_width_option(alloc))?
         .arg(output_option(alloc))?
         .arg(quiet_option(alloc))
 }
@@ -139,6 +140,7 @@ fn clap_command_for_campaign<'a>(alloc: Global) -> Result<Command<'a>, AllocErro
         .arg(options::save_failures_option(alloc))?
         .arg(options::text_or_json_format_option(alloc))?
         .arg(page::html_option(alloc))?
+        .arg(line_width_option(alloc))?
         .arg(output_option(alloc))?
         .arg(quiet_option(alloc))
 }

@@ -85,11 +85,6 @@ fn clamped_line_width_or_default(width: Option<u64>) -> usize {
     }
 }
 
-/// The width of lines: that of `COLUMNS`, or 80.
-pub fn line_width_of_environment_or_default<R: Env + AllocGlobal>(rt: &R) -> usize {
-    clamped_line_width_or_default(line_width_of_environment(rt))
-}
-
 /// The width of lines: as the arguments say, or else `COLUMNS`, or 80.
 pub fn line_width_from_arguments_or_environment<R: Env + AllocGlobal>(
     rt: &R,

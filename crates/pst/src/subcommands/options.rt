@@ -1,5 +1,6 @@
 //! The arguments of the commands.
 
+use crate::terminal::{LEAST_WIDTH, MOST_WIDTH};
 use clap::builder::ValueParser;
 use clap::{Arg, ArgAction, ArgMatches, Command};
 use pst_cli::{CallOrder, OutputForm};
@@ -242,6 +243,15 @@ pub fn output_option<'a>(alloc: Global) -> Arg<'a> {
         .long("output")
         .value_name("FILE")
         .help("Writes to FILE in place of standard output, which `-` also names")
+}
+
+/// The option that gives the width of lines.
+pub fn line_width_option<'a>(alloc: Global) -> Arg<'a> {
+    Arg::new(alloc, "width")
+        .long("width")
+        .value_name("N")
+        .value_parser(ValueParser::Unsigned(LEAST_WIDTH, MOST_WIDTH))
+        .help("The width of lines, from 20 to 1000; else that of COLUMNS, or 80")
 }
 
 /// The option that keeps standard error empty.
