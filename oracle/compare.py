@@ -21,21 +21,24 @@ ITEMS = 6
 
 
 def compare_judging(program, file, random):
-    """`pst check` and `pst judge` on a random model and items; the lines that were wanted."""
+    """`pst check` and `pst judge` on a random model and items; the kinds of the verdicts that were wanted."""
     inputs = Inputs(random)
     source = inputs.model()
     model = Model(read(source)[0])
-    ill = model.first_ill_typed()
+    ill, items = model.first_ill_typed(), []
     if ill is not None:
         wanted = (f"refused type item {ill}\n",) * 3
     else:
-        source += "\n" + "\n".join(inputs.item(model) for _ in range(ITEMS)) + "\n"
+        items = [inputs.item(model) for _ in range(ITEMS)]
+        source += "\n" + "\n".join(items) + "\n"
         trees = read(source)[1:]
         wanted = (f"ok {model.name}\n", lines(model, trees), lines(model, trees, in_time=False))
     file.write_text(source)
     asked = [["check"], ["judge"], ["judge", "--order", "none"]]
     compare(source, wanted, tuple(output_of(program, *words, file) for words in asked))
-    return wanted[1]
+    found = [line.split()[1] for line in wanted[1].splitlines()]
+    unknown = [kind for kind, item in zip(found, items) if len(found) == ITEMS and " unknown" in item.replace("(", " ")]
+    return found + ["with calls of unknown outcome"] * len(unknown) + [f"{kind} with calls of unknown outcome" for kind in unknown]
 
 
 def compare_campaign(program, file, random):
@@ -59,8 +62,7 @@ def main():
     with tempfile.TemporaryDirectory() as folder:
         file = pathlib.Path(folder, "input")
         for number in range(first, first + count):
-            for line in compare_judging(program, file, Random(2 * number)).splitlines():
-                kinds[line.split()[1]] += 1
+            kinds.update(compare_judging(program, file, Random(2 * number)))
             text = compare_campaign(program, file, Random(2 * number + 1))
             kinds["campaigns that fail" if "least none" not in text else "campaigns that pass"] += 1
     print(f"{count} models with {ITEMS} items each and {count} campaigns: no difference")

@@ -13,7 +13,7 @@ import tempfile
 from random import Random
 
 from asking import output_of
-from judging import LETTERS, lengths, merges_keeping, precedences, spelled, verdict
+from judging import BRANCHES, lengths, merges_keeping, precedences, spelled, verdict
 from language import Fault
 from timed import NoRun, TimedRuns, wanted_answer
 from trees import read
@@ -60,7 +60,7 @@ def shows(said, value):
 
 def numbers_of_calls(parts):
     """The index of each command by the name that the document gives it."""
-    names = ["P", *LETTERS[:len(parts) - 2], "X"]
+    names = ["P", *BRANCHES[:len(parts) - 2], "X"]
     found = [f"{name}{index}" for name, part in zip(names, parts) for index in range(1, len(part) + 1)]
     return {name: index for index, name in enumerate(found)}
 
@@ -180,7 +180,7 @@ class Checks:
         want(said["kind"] == kind, f"the walk is one that {kind}")
         done = [self.ids[index] for index in walk.order[:count]]
         shown = walk.order[:count + (kind == "faults" and count < len(walk.order) and walk.states != [])]
-        word = "".join(self.ids[index][0] for index in shown if self.ids[index][0] in LETTERS) or "-"
+        word = "".join(self.ids[index][0] for index in shown if self.ids[index][0] in BRANCHES) or "-"
         want(said["word"] == word, f"the word of the walk is {word}")
         want([step["call"] for step in said["steps"]] == done, f"the steps are {done}")
         want(("start" in said) == (walk.states != []), "the walk starts on a state exactly if there is one")

@@ -2,7 +2,7 @@
 from judging import order_of
 from language import Fault, Model
 from trees import Text, Word, read, spelled
-from values import GREATEST, LEAST, List, Map, Reference, Tuple, Variable, parts_of, tree_of_value, with_parts
+from values import GREATEST, LEAST, List, Map, Reference, Tuple, Variable, parts_of, tree_of_value, variables_in, with_parts
 
 INTEGERS = [0, 0, 1, 1, 2, 3, -1, 7, GREATEST, LEAST]
 TEXTS = ["", "a", "b", "ab", 'z "', "\\"]
@@ -31,6 +31,8 @@ class Inputs:
         self.mistakes = 0.01 if random.random() < 0.15 else 0.0
         # How often a command names no operation.
         self.absent = 0.001
+        # How often a run has calls of unknown outcome.
+        self.unknowns = 0.4
         self.operations, self.functions, self.answers, self.names = [], [], {}, 0
 
     def chance(self, share):
@@ -267,7 +269,8 @@ class Inputs:
         trees = self.item_trees(model, parts, has_suffix)
         if self.chance(0.3):
             return spelled([Word("case"), *trees])
-        replies = [[self.reply_tree(one) for one in part] for part in self.replies(model, parts)]
+        outcomes = self.outcomes(parts) if self.chance(self.unknowns) else None
+        replies = [[self.reply_tree(one) for one in part] for part in self.replies(model, parts, outcomes)]
         times = [[Word("times"), *self.times(replies[1:-1])]] * self.chance(0.5)
         replies = replies if has_suffix else replies[:-1]
         if self.chance(0.01):
@@ -290,6 +293,8 @@ class Inputs:
             if part and self.chance(0.1):
                 part[-1][1] = Word("-")
             del part[sum(reply != Word("not-run") for reply in answers):]
+            if part and Word("unknown") in answers and self.chance(0.9):
+                part[-1][1] = Word("-")
         return self.mistaken(trees)
 
     def mistaken(self, trees):
@@ -339,7 +344,38 @@ class Inputs:
             trees += [[Word("branches"), *branches]]
         return trees + [[Word("suffix"), *suffix]] * has_suffix
 
-    def replies(self, model, parts):
+    def outcomes(self, parts):
+        """What became of each command: a value, an unknown outcome, or that it was not run, with a mistake now and then."""
+        outcomes = [["value"] * len(part) for part in parts]
+        chosen = [number for number, part in enumerate(parts) if part and self.chance(0.15 if number == 0 else 0.5)]
+        for number in chosen:
+            place = self.random.randrange(len(parts[number]))
+            outcomes[number][place:] = ["unknown"] + ["not-run"] * (len(parts[number]) - place - 1)
+        if "unknown" in outcomes[0] and self.chance(0.9):
+            for part in outcomes[1:-1]:
+                part[:] = ["not-run"] * len(part)
+        flat, missing = [one for part in outcomes for one in part], set()
+        commands = [one for part in parts for one in part]
+        for number, (_, arguments) in enumerate(commands, 1):
+            needs = any(variable in missing for argument in arguments for variable in variables_in(argument))
+            if needs and flat[number - 1] == "value" and self.chance(0.97):
+                flat[number - 1] = "not-run"
+            if flat[number - 1] != "value":
+                missing.add(number)
+        if flat and self.chance(0.03):
+            flat[self.random.randrange(len(flat))] = self.random.choice(["value", "failed", "misfit", "not-run", "unknown"])
+        return flat
+
+    def order_of_effects(self, order, outcomes):
+        """The order of the commands that took effect: some of unknown outcome do so late, and some never."""
+        effects = [index for index in order if outcomes[index] == "value"]
+        for index in order:
+            if outcomes[index] == "unknown" and self.chance(0.6):
+                first = sum(outcomes[other] == "value" for other in order[:order.index(index)])
+                effects.insert(first if self.chance(0.5) else self.random.randint(first, len(effects)), index)
+        return effects
+
+    def replies(self, model, parts, outcomes=None):
         """Replies as along one interleaving, where the postconditions say them, and of some commands others."""
         commands = [one for part in parts for one in part]
         replies = [None] * len(commands)
@@ -349,7 +385,8 @@ class Inputs:
         recorded = lambda one: Reference(one.number, replies[one.number - 1])
         try:
             state = model.run(model.single["init"], {})
-            for index in order_of(parts, merge):
+            order = order_of(parts, merge)
+            for index in order if outcomes is None else self.order_of_effects(order, outcomes):
                 operation, arguments = commands[index]
                 names = operation.names(state, [with_parts(one, recorded) for one in arguments])
                 replies[index] = self.reply(model, operation, names)
@@ -361,6 +398,8 @@ class Inputs:
         for index, (operation, _) in enumerate(commands):
             if replies[index] is None or self.chance(share):
                 replies[index] = self.value(operation.result)
+            if outcomes is not None and outcomes[index] != "value":
+                replies[index] = Word(outcomes[index])
         numbers = iter(replies)
         return [[next(numbers) for _ in part] for part in parts]
 
@@ -370,6 +409,8 @@ class Inputs:
         return without_references(model.run(self.answers[operation.name], names))
 
     def reply_tree(self, value):
+        if isinstance(value, Word):
+            return value
         if self.chance(0.005):
             return read(self.random.choice(["misfit", "failed", "$1", "(map (2 1) (1 1))", "(list misfit)", "9" * 20]))[0]
         return tree_of_value(value)

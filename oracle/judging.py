@@ -8,13 +8,16 @@ from values import NoValue, Reference, Variable, fits, value_of_tree, variables_
 
 # A command: the number of its operation and its arguments.
 Command = namedtuple("Command", "operation arguments")
-# The parts are the prefix, the branches and the suffix. `replies` has the answer of each command, or None where it is
-# no value; it is None itself where nothing is recorded. `times` has the times of the calls of each branch, or is None.
+# The parts are the prefix, the branches and the suffix. `replies` has the answer of each command, or the word of a reply
+# that is no value; it is None itself where nothing is recorded. `times` has the times of the calls of each branch, or is
+# None.
 Item = namedtuple("Item", "parts replies times")
 Answer = namedtuple("Answer", "value")
 # When a call was invoked, and when it completed, or None.
 Time = namedtuple("Time", "invoked completed")
-LETTERS = "LRST"
+BRANCHES = "LRST"
+LETTERS = BRANCHES + "P."
+NO_VALUES = ("misfit", "failed", "not-run", "unknown")
 
 
 class Refused(Exception):
@@ -136,41 +139,42 @@ def fault_of(operation, arguments, own, owners, results, suffix):
 def read_replies(model, commands, trees):
     replies = []
     for number, (command, tree) in enumerate(zip(commands, trees), 1):
-        if isinstance(tree, Word) and tree in ("misfit", "failed", "not-run"):
-            replies.append(None)
+        if isinstance(tree, Word) and tree in NO_VALUES:
+            replies.append(str(tree))
             continue
         try:
             value = value_of_tree(tree, model.has_maps, False)
         except NoValue:
             raise Refused(number, "BadReply") from None
         is_fit = fits(value, model.operations[command.operation].result, [])
-        replies.append(Answer(value) if is_fit else None)
+        replies.append(Answer(value) if is_fit else "misfit")
     return replies
 
 
 def read_times(replies, lists):
-    """The times of the calls of each branch. A call has a time if its reply is not `not-run`."""
-    called = [[reply != Word("not-run") or not isinstance(reply, Word) for reply in part] for part in replies]
-    if any(len(trees) != sum(part) for part, trees in zip(called[1:-1], lists)):
+    """The times of the calls of each branch. A call has a time if its reply is not `not-run`, and one of unknown outcome has no completion."""
+    is_word = lambda reply, word: isinstance(reply, Word) and reply == word
+    kinds = [[(not is_word(reply, "not-run"), is_word(reply, "unknown")) for reply in part] for part in replies]
+    if any(len(trees) != sum(is_called for is_called, _ in part) for part, trees in zip(kinds[1:-1], lists)):
         raise Refused(0, "BadTimes")
-    times, number = [], len(called[0])
-    for part, trees in zip(called[1:-1], lists):
+    times, number = [], len(kinds[0])
+    for part, trees in zip(kinds[1:-1], lists):
         times.append([])
         trees = iter(trees)
-        for is_called in part:
+        for is_called, is_unknown in part:
             number += 1
             if is_called:
-                times[-1].append(read_time(number, next(trees), times[-1]))
+                times[-1].append(read_time(number, next(trees), times[-1], is_unknown))
     return times
 
 
-def read_time(number, tree, before):
+def read_time(number, tree, before, is_unknown):
     is_pair = isinstance(tree, list) and len(tree) == 2 and all(isinstance(word, Word) for word in tree)
     if not is_pair or not is_instant(tree[0]) or not (tree[1] == "-" or is_instant(tree[1])):
         raise Refused(number, "BadTimes")
     time = Time(int(tree[0]), None if tree[1] == "-" else int(tree[1]))
     is_over = not before or before[-1].completed is not None and before[-1].completed <= time.invoked
-    if not is_over or time.completed is not None and time.completed < time.invoked:
+    if not is_over or time.completed is not None and (is_unknown or time.completed < time.invoked):
         raise Refused(number, "BadTimes")
     return time
 
@@ -289,8 +293,11 @@ def why_not_valid(model, parts, state, merge):
 
 def verdict(model, item):
     parts, replies = item.parts, item.replies
-    if None in replies:
-        return f"broken {replies.index(None) + 1}"
+    if "unknown" in replies:
+        return verdict_with_unknown(model, item)
+    for number, reply in enumerate(replies, 1):
+        if not isinstance(reply, Answer):
+            return f"broken {number}"
     try:
         start = model.run(model.single["init"], {})
     except Fault as fault:
@@ -344,6 +351,168 @@ class Replays:
         recorded = lambda variable: Reference(variable.number, self.replies[variable.number - 1].value)
         arguments = [with_parts(argument, recorded) for argument in self.commands[index].arguments]
         return self.model.operations[self.commands[index].operation].names(self.states[-1], arguments)
+
+
+# ---- calls of unknown outcome
+
+
+def broken_command(model, item):
+    """The number of the first broken command of a run in which some call has an unknown outcome, if there is one."""
+    replies, number = item.replies, 0
+    missing = {place for place, reply in enumerate(replies, 1) if not isinstance(reply, Answer)}
+    for part in item.parts:
+        ended = False
+        for command in part:
+            number += 1
+            reply = replies[number - 1]
+            needs = any(one in missing for argument in command.arguments for one in variables_in(argument))
+            names_result = "r" in names_in(model.operations[command.operation].callbacks["next"])
+            if reply in ("misfit", "failed") or isinstance(reply, Answer) and (ended or needs):
+                return number
+            if reply == "unknown" and (ended or needs or names_result):
+                return number
+            ended = ended or reply == "unknown"
+    return None
+
+
+def names_in(tree):
+    """The words of an expression that may be names."""
+    if isinstance(tree, list):
+        return {name for part in tree for name in names_in(part)}
+    return {str(tree)} if isinstance(tree, Word) else set()
+
+
+def columns_of(item):
+    """The calls of four branches, of the prefix where its outcome is unknown, and of the suffix: indices of commands."""
+    known, unknown, first = [], [], 0
+    for part in item.parts:
+        places = range(first, first + len(part))
+        known.append([place for place in places if isinstance(item.replies[place], Answer)])
+        unknown.append([place for place in places if item.replies[place] == "unknown"])
+        first += len(part)
+    branches = [one + other for one, other in zip(known[1:-1], unknown[1:-1])]
+    return known[0], branches + [[]] * (4 - len(branches)) + [unknown[0], known[-1]]
+
+
+def times_of_calls(item, columns):
+    """The time of each call of a branch, by the index of its command."""
+    times = {}
+    for column, own in zip(columns, item.times or []):
+        times.update(zip(column, own))
+    return times
+
+
+def verdict_with_unknown(model, item):
+    """By the definition: along each order of the calls with values and of some of those of unknown outcome, each of which is
+    before a call with a value."""
+    broken = broken_command(model, item)
+    if broken is not None:
+        return f"broken {broken}"
+    try:
+        state = model.run(model.single["init"], {})
+    except Fault as fault:
+        return f"fault 0 init {fault}"
+    prefix, columns = columns_of(item)
+    outcomes = Outcomes(model, item, state)
+    done, fault = outcomes.end(prefix)
+    if done < len(prefix):
+        return fault or f"unexplained far {done}"
+    explaining, faulting, far = [], [], -1
+    for word, whole in words_of_calls(item, columns):
+        calls = prefix + calls_along(columns, word)
+        done, fault = outcomes.end(calls)
+        if done == len(calls):
+            explaining.append((whole, word))
+        elif fault is not None:
+            faulting.append((whole, fault))
+        else:
+            far = max(far, done)
+    if explaining:
+        return f"explained {spelled(min(explaining)[1])}"
+    return min(faulting)[1] if faulting else f"unexplained far {far}"
+
+
+def words_of_calls(item, columns):
+    """The words of calls that end with one that has a value, and each with the letters of the calls after it that took no
+    effect."""
+    is_known = [[isinstance(item.replies[place], Answer) for place in column] for column in columns]
+    unknown = [number for number, column in enumerate(is_known) if False in column]
+    for chosen in range(1 << len(unknown)):
+        left_out = tuple(number for bit, number in enumerate(unknown) if not chosen >> bit & 1)
+        counts = [len(column) - (number in left_out) for number, column in enumerate(columns)]
+        for word in words_in_order(item, columns, counts):
+            if not word or is_known[word[-1]][counts[word[-1]] - 1]:
+                yield word, word + left_out
+
+
+def words_in_order(item, columns, counts):
+    """The words with so many calls of each column in which the suffix comes after the calls of branches that have values, and
+    no call before one that precedes it in time."""
+    known = [sum(isinstance(item.replies[place], Answer) for place in column) for column in columns[:4]]
+    times = times_of_calls(item, columns)
+
+    def precedes(one, other):
+        return one in times and other in times and times[one].completed is not None and times[one].completed < times[other].invoked
+
+    def is_open(letter, done):
+        if letter == 5 and any(reached < count for reached, count in zip(done, known)):
+            return False
+        call = columns[letter][done[letter]]
+        left = [other for column, first, count in zip(columns, done, counts) for other in column[first:count]]
+        return not any(precedes(other, call) for other in left)
+
+    def words(done, word):
+        if done == counts:
+            yield word
+        for letter, (reached, count) in enumerate(zip(done, counts)):
+            if reached < count and is_open(letter, done):
+                yield from words([*done[:letter], reached + 1, *done[letter + 1:]], (*word, letter))
+
+    return words([0] * len(counts), ())
+
+
+def calls_along(columns, word):
+    done, calls = [0] * len(columns), []
+    for letter in word:
+        calls.append(columns[letter][done[letter]])
+        done[letter] += 1
+    return calls
+
+
+class Outcomes:
+    """What becomes of calls in an order, each order evaluated once."""
+
+    def __init__(self, model, item, state):
+        self.model, self.commands, self.replies = model, commands_of(item.parts), item.replies
+        self.known = {(): (state, None)}
+
+    def end(self, calls):
+        """How many calls come before one that is false, or faults; and the fault, if it has a value."""
+        state, fault, before = self.known[()][0], None, ()
+        for done, index in enumerate(calls):
+            before = (*before, index)
+            if before not in self.known:
+                self.known[before] = self.step(state, index)
+            state, fault = self.known[before]
+            if state is None:
+                return done, fault
+        return len(calls), None
+
+    def step(self, state, index):
+        """The state after a call, or None; and the fault, if the call has a value and faults."""
+        operation, reply = self.model.operations[self.commands[index].operation], self.replies[index]
+        recorded = lambda variable: Reference(variable.number, self.replies[variable.number - 1].value)
+        names = operation.names(state, [with_parts(argument, recorded) for argument in self.commands[index].arguments])
+        callback = "post"
+        try:
+            if reply == "unknown":
+                return self.model.run(operation.callbacks["next"], {**names, "r": Variable(index + 1)}), None
+            if not self.model.run(operation.callbacks["post"], {**names, "r": reply.value}):
+                return None, None
+            callback = "next"
+            return self.model.run(operation.callbacks["next"], {**names, "r": Reference(index + 1, reply.value)}), None
+        except Fault as fault:
+            return None, None if reply == "unknown" else f"fault {index + 1} {callback} {fault}"
 
 
 def lines(model, trees, in_time=True):

@@ -3,7 +3,8 @@
 
 For each input the JSON has to be as docs/json.md says, and the text has to be the one that is written here from the JSON alone. The page has to
 have the JSON in it. The inputs are the files that are named, or else the examples, those of crates/pst_rows/data/explained, those with times of
-the docs, the rows and the page's tests, runs with times at random, and some that are made of these by changing answers and arguments.
+the docs, the rows and the page's tests, runs with times and with unknown outcomes at random, and some that are made of these by changing
+answers and arguments.
 """
 import glob, json, os, random, re, subprocess, sys
 
@@ -26,7 +27,7 @@ ITEM = {
               "steps": [{"call": "call", "state": str, "pre?": str}], "next": [{"call": "call", "why": WHY}]},
     "callback?": {"call": "call or null", "callback": ("init", "pre", "next", "post"), "outcome": str, "expr": str, "names": NAMES,
                   "part?": {"expr": str, "names": NAMES, "function?": str}},
-    "broken?": {"call": "call", "wanted": str},
+    "broken?": {"call": "call", "wanted?": str, "after?": "call", "needs?": "call", "next?": bool}, "no_effect?": ["call"],
     "search": {"orders?": int, "positions?": int, "moves?": int},
     "graph?": {"nodes": [{"at": [int], "state": str}], "edges": [{"from": "node", "call": "call", "to?": "node", "on?": bool, "why?": WHY}]},
 }
@@ -113,6 +114,7 @@ class Text:
         self.item, self.lines, self.is_timed = item, [], is_timed
         self.interleaving = "interleaving in order of time" if is_timed else "interleaving"
         self.calls = {call["id"]: call for call in item["calls"]}
+        self.has_unknown = any(map(is_unknown, self.calls.values()))
         self.posts = {op["name"]: op["post"] for op in document["model"]["ops"]}
         place = f"line {item['at']['line']}"
         if len(document["files"]) > 1:
@@ -190,7 +192,8 @@ class Text:
             self.add(f"In the interleaving {word} the precondition of {self.call(call)} is false:")
         else:
             branches = sum(call["part"] in "LRST" for call in self.calls.values())
-            how = "in the interleaving" if len(word.strip("-")) == branches else "in an interleaving that begins with"
+            is_whole = len(word.strip("-")) == branches and not self.has_unknown
+            how = "in the interleaving" if is_whole else "in an interleaving that begins with"
             self.add(f"The callback {found['callback']} of {self.replied(call) if 'reply' in call else self.call(call)} faults with {found['outcome']}"
                      + (f" {how} {word}" if call["part"] != "P" else "") + ":")
         self.expression(found)
@@ -208,6 +211,10 @@ class Text:
             if "pre" in step:
                 how = "is false" if step["pre"] == "false" else f"faults with {step['pre']}"
                 self.add(f"The precondition of {self.call(self.calls[step['call']])} {how} there; the verdict on a recorded run does not depend on it.")
+        idle = [call["id"] for call in self.calls.values() if is_unknown(call) and call["id"] not in [step["call"] for step in self.item["walk"]["steps"]]]
+        assert idle == self.item.get("no_effect", []), f"{idle} took no effect"
+        if idle:
+            self.add(", ".join(self.replied(self.calls[each]) for each in idle) + " took no effect, or only after the last answer.")
 
     def of_unexplained(self):
         self.core()
@@ -219,7 +226,8 @@ class Text:
                  f"No {self.interleaving} gets further than {walk['word']}, where {events}:")
         assert len(walk["steps"]) == far
         self.states()
-        self.add(f"There the postcondition of {'the' if len(walk['next']) == 1 else 'each'} next command is false:")
+        self.add("There no next command fits:" if any(is_unknown(self.calls[stopped["call"]]) for stopped in walk["next"]) else
+                 f"There the postcondition of {'the' if len(walk['next']) == 1 else 'each'} next command is false:")
         for stopped in walk["next"]:
             self.add(self.replied(self.calls[stopped["call"]]), stopped["why"]["text"])
 
@@ -234,12 +242,48 @@ class Text:
         pass
 
     def of_broken(self):
-        call = self.calls[self.item["broken"]["call"]]
+        broken = self.item["broken"]
+        call = self.calls[broken["call"]]
+        other = lambda key: self.call(self.calls[broken[key]])
+        assert len(broken) == 2
+        if "wanted" not in broken:
+            self.add(self.call(call) + (
+                f" was called after {other('after')}, whose outcome is unknown: the commands after it in its part are not-run." if "after" in broken else
+                f" uses the result of {other('needs')}, which has none: it cannot have been called." if "needs" in broken else
+                " has the reply unknown, but `next` of its operation uses `r`: nobody knows the state after it."))
+            self.add("The run, with * before this command:")
+            return self.run({call["id"]})
         how = {"misfit": "it answered something other than", "failed": "it failed, or its answer is not a value, instead of",
                "not-run": "it was not called, and did not answer"}[call["reply"]["text"]]
         self.add(f"{self.call(call)} has the reply {call['reply']['text']}: {how} a value of type {self.item['broken']['wanted']}.")
         self.add("The run, with * before this command:")
         self.run({call["id"]})
+
+
+def is_unknown(call):
+    """Whether the outcome of a call is unknown."""
+    return "reply" in call and call["reply"]["text"] == "unknown"
+
+
+def counted_calls(item):
+    """The calls of each part that an interleaving of a run with unknown outcomes has: those that answered, and except in the suffix an unknown one."""
+    answered = lambda call: call["reply"]["text"] not in ("misfit", "failed", "not-run", "unknown")
+    return {part: [call for call in item["calls"] if call["part"] == part and (answered(call) or is_unknown(call) and part != "X")] for part in "PLRSTX"}
+
+
+def next_calls_with_unknown(item, at, is_timed):
+    """The calls that may come next when so many of each part are done, in a run with unknown outcomes; none if all that answered are done."""
+    counted = counted_calls(item)
+    left = {part: calls[at.get(part, 0):] for part, calls in counted.items()}
+    known = {part: [call for call in calls if not is_unknown(call)] for part, calls in left.items()}
+    if known["P"]:
+        return {known["P"][0]["id"]}
+    if not any(known.values()):
+        return set()
+    others = [call for part in "LRST" for call in left[part]]
+    found = [left[part][0] for part in "LRST" if left[part] and not (is_timed and any(precedes(other, left[part][0]) for other in others))]
+    found += left["P"][:1] + left["X"][:0 if any(known[part] for part in "LRST") else 1]
+    return {call["id"] for call in found}
 
 
 def precedes(earlier, later):
@@ -270,6 +314,8 @@ def check_times(item, is_timed):
 def next_calls(item, node, is_timed):
     """The calls that may come next at a node: that of the prefix, or those of the branches that no call that is left precedes, or that of the suffix."""
     at = dict(zip(["P", *"LRST"[:len(item["graph"]["nodes"][node]["at"]) - 2], "X"], item["graph"]["nodes"][node]["at"]))
+    if any(map(is_unknown, item["calls"])):
+        return next_calls_with_unknown(item, at, is_timed)
     left = [call for call in item["calls"] if call["index"] > at[call["part"]]]
     part = next((part for part in ("P", "LRST", "X") if any(call["part"] in part for call in left)), "")
     return {call["id"] for call in left if call["part"] in part and call["index"] == at[call["part"]] + 1
@@ -294,6 +340,7 @@ def check_graph(item, is_timed):
         assert tried == sorted(next_calls(item, node, is_timed)), f"at node {node} {tried} are tried"
     if item["kind"] == "run" and item["verdict"] == "unexplained":
         assert not any(sum(node["at"]) == len(item["calls"]) for node in graph["nodes"]), "a way leads to the end"
+        assert not any(map(is_unknown, item["calls"])) or all(next_calls(item, node, is_timed) for node in range(len(graph["nodes"]))), "a way leads to the end"
 
 
 def run(program, words, text):
@@ -331,7 +378,7 @@ def compare(program, words, text=None):
         assert NEEDED[item["verdict"]] <= set(item), f"item {item['item']} lacks a part"
         is_timed, has_times = "order" in item, any("time" in call for call in item["calls"])
         assert not is_timed if "none" in words else is_timed or not has_times, f"item {item['item']} has another order"
-        assert ("orders" in item["search"]) != is_timed
+        assert ("orders" in item["search"]) != (is_timed or any(map(is_unknown, item["calls"])))
         check_times(item, is_timed)
         if "graph" in item:
             check_graph(item, is_timed)
@@ -389,6 +436,53 @@ def timed_run(chance):
     return f"(run (prefix) (branches {lists(calls)}) (replies () {lists(replies)}) (times {lists(times)}))"
 
 
+def unknown_run(chance, has_times):
+    """Returns a run of the blind counter in which calls have unknown outcomes. Some of these explain its answers, unless one was changed."""
+    count = chance.randint(2, 4)
+    parts = [[chance.choice(["inc", "get"]) for _ in range(chance.randint(0, 3))] for _ in range(count + 2)]
+    lost = [chance.randint(0, 3) if chance.random() < (0.2 if number == 0 else 0.5) else 9 for number in range(count + 2)]
+    order = [0] * len(parts[0]) + chance.sample(flat := [number for number in range(1, count + 1) for _ in parts[number]], len(flat))
+    order += [count + 1] * len(parts[-1])
+    state, replies, late, times = 0, [[] for _ in parts], 0, [[] for _ in parts]
+    for clock, number in enumerate(order):
+        place = len(replies[number])
+        is_increment = parts[number][place] == "inc"
+        if place > lost[number]:
+            replies[number].append("not-run")
+            continue
+        times[number].append((3 * clock, "-" if place == lost[number] else 3 * clock + chance.randint(0, 2)))
+        if place == lost[number]:
+            replies[number].append("unknown")
+            late += is_increment and chance.random() < 0.7
+            continue
+        landed = chance.randint(0, late)
+        state, late = state + is_increment + landed, late - landed
+        replies[number].append("true" if is_increment else state - is_increment + (chance.random() < 0.1))
+    if chance.random() < 0.05:
+        number = chance.choice([number for number, part in enumerate(replies) if part] or [0])
+        if replies[number]:
+            replies[number][-1] = chance.choice(["unknown", "true", "failed", 0])
+            has_times = False
+    lists = lambda each: " ".join(f"({' '.join(map(str, one))})" for one in each)
+    called = [[f"({name})" for name in part] for part in parts]
+    trees = f"(prefix {' '.join(called[0])}) (branches {lists(called[1:-1])}) (suffix {' '.join(called[-1])}) (replies {lists(replies)})"
+    return f"(run {trees}" + (f" (times {lists([[f'({one} {two})' for one, two in part] for part in times[1:-1]])})" if has_times else "") + ")"
+
+
+def unknown_inputs(chance):
+    """Returns inputs with unknown outcomes: those of the docs and of the rows, and runs at random."""
+    with open(os.path.join(TOP, "crates/pst_rows/data/judge/unknown.rows"), encoding="utf-8") as file:
+        rows = file.read()
+    inputs = []
+    for table in rows.split("\ntable ")[1:]:
+        before = re.search(r"^before (.*)$", table, re.M)[1]
+        runs = [match[1] for match in re.finditer(r"^(\(run .*\)) => (?!\d+ \d+ )", table, re.M)]
+        with open(os.path.join(TOP, f"crates/pst_rows/data/models/{before.strip('{}')}.model") if before.startswith("{") else os.devnull, encoding="utf-8") as file:
+            inputs.append((["-"], "\n".join([file.read() or before, *runs])))
+    inputs += [(["-"], BLIND + "\n".join(unknown_run(chance, at % 2 == 0) for at in range(10))) for _ in range(100)]
+    return [([*more, *words], text.encode()) for words, text in inputs for more in ([], ["--order", "none"])]
+
+
 def timed_inputs(chance):
     """Returns inputs with times: those of the docs and of the rows, and runs at random."""
     with open(os.path.join(TOP, "docs/explain.md"), encoding="utf-8") as file:
@@ -412,7 +506,7 @@ def main(program, *files):
         names.append("tests/page/times.runs")
         inputs += [([*more, "tests/page/times.runs"], None) for more in ([], ["--failures"], ["--order", "none"])]
         chance = random.Random(7)
-        inputs += timed_inputs(chance)
+        inputs += timed_inputs(chance) + unknown_inputs(random.Random(8))
         for name in (chance.choice(names) for _ in range(200)):
             with open(os.path.join(TOP, name), encoding="utf-8") as file:
                 inputs.append((["-"], changed(re.sub(r"(?m)^;.*\n", "", file.read()), chance).encode()))

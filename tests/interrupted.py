@@ -18,13 +18,22 @@ for line in sys.stdin:
     n += name == "inc"
     print("null" if name == "reset" else n, flush=True)
 """
+# A trial of it takes minutes.
+TURNS = "(len (for ((in x (range 0 1000)) (in y (range 0 990)) (when false)) 0))"
+SLOW = f"""(model slow (state int) (init 0) (command (list call (call inc))) (op inc () int
+  (pre (= 0 {TURNS})) (next (+ s (+ 1 {TURNS}))) (post (= r (+ s (+ 1 {TURNS}))))))"""
 NAMES = {signal.SIGINT: "Ctrl-C again", signal.SIGTERM: "TERM again, or ten seconds,"}
+LOST = re.compile(r"^lost 2 \d+:ResetFailed \d+:ResetFailed$", re.M)
 passed = failed = 0
 
 
-def notice_of(number):
-    """What is said at the first signal of this number."""
-    return f"pst: the campaign ends after the trials that run; {NAMES[number]} ends it at once, without a report\n"
+def notice_of(number, signals, is_sample=False):
+    """What is said at the first or second signal of this number."""
+    if signals == 1 and is_sample:
+        return "pst: the campaign ends after the trials that run; the third signal ends it at once, without a report\n"
+    if signals == 1:
+        return f"pst: the campaign ends after the trials that run; {NAMES[number]} ends their calls\n"
+    return f"pst: the trials that run end; {NAMES[number]} ends the campaign at once, without a report\n"
 
 
 def check(name, is_right, *shown):
@@ -37,9 +46,9 @@ def check(name, is_right, *shown):
         print(f"interrupted: {name}:", *shown)
 
 
-def campaign(pst, room, arguments, number, signals, begun):
-    """Runs a campaign, sends it the signal so often once it has begun, and returns its status, its report and its messages."""
-    command = [pst, "campaign", *arguments, MODEL, "--trials", "100000", "--repeats", "20", "--branches", "1"]
+def campaign(pst, room, arguments, number, signals, begun, model=MODEL):
+    """Runs a campaign, sends it the signal so often once it has begun, and returns its status, its report, its messages, and how many seconds passed since."""
+    command = [pst, "campaign", *arguments, model, "--trials", "100000", "--repeats", "20", "--branches", "1"]
     reset = lambda: signal.signal(number, signal.SIG_DFL)
     with open(f"{room}/errors", "w+") as errors:
         ran = subprocess.Popen(command, cwd=room, stdin=subprocess.DEVNULL, stdout=subprocess.PIPE, stderr=errors, text=True, start_new_session=True, preexec_fn=reset)
@@ -50,11 +59,12 @@ def campaign(pst, room, arguments, number, signals, begun):
             if at and number == signal.SIGTERM:
                 time.sleep(3)  # one that comes sooner may be of `timeout`, which sends two
             os.killpg(ran.pid, number)
-            while at + 1 < signals and notice_of(number) not in open(f"{room}/errors").read() and time.time() < deadline:
+            sent = time.time()
+            while at + 1 < signals and notice_of(number, at + 1, model != MODEL) not in open(f"{room}/errors").read() and time.time() < deadline:
                 time.sleep(0.05)
         report, _ = ran.communicate(timeout=60)
         errors.seek(0)
-        return ran.returncode, report, errors.read()
+        return ran.returncode, report, errors.read(), time.time() - sent
 
 
 def counts(report):
@@ -63,29 +73,50 @@ def counts(report):
 
 
 def check_signal(pst, room, number):
-    """Checks what a campaign does at a signal, and at a second one."""
-    name, notice = number.name, notice_of(number)
+    """Checks what a campaign does at a signal, at a second and at a third one."""
+    name = number.name
     began = time.time()
-    status, report, errors = campaign(pst, room, ["-q", "counter"], number, 1, lambda: time.time() > began + 2)
+    status, report, errors, _ = campaign(pst, room, ["-q", "counter"], number, 1, lambda: time.time() > began + 2)
     done, undrawn = counts(report)
     check(f"{name} on a sample system, quiet", status == 3 and done + undrawn == 100000 and undrawn > 0 and not errors, status, report, errors)
+
+    # A signal makes 3 of the status 0 also where the trials that were made count alone, and a file to stop does not keep signals from a campaign.
+    began = time.time()
+    status, report, errors, _ = campaign(pst, room, ["-q", "counter", "--seconds", "600", "--stop-file", "never"], number, 1, lambda: time.time() > began + 2)
+    done, undrawn = counts(report)
+    check(f"{name} before its time", status == 3 and done + undrawn == 100000 and undrawn > 0 and not errors, status, report, errors)
+
+    with open(f"{room}/slow.model", "w") as file:
+        file.write(SLOW)
+    began = time.time()
+    arguments = ["counter", "--workers", "1", "--commands", "64"]
+    status, report, errors, _ = campaign(pst, room, arguments, number, 3, lambda: time.time() > began + 8, f"{room}/slow.model")
+    wanted = notice_of(number, 1, True) + notice_of(number, 2)
+    check(f"{name} 3 times on a sample system", status == 128 + number and not report and errors.startswith(wanted), status, report, errors)
 
     if number == signal.SIGTERM:
         ran = subprocess.run(["timeout", "10", pst, "campaign", "counter", MODEL, "--trials", "100000", "--repeats", "20"], capture_output=True, text=True)
         check("timeout ends a campaign", ran.returncode == 124 and sum(counts(ran.stdout)) == 100000, ran.returncode, ran.stdout, ran.stderr)
 
     for pause, signals in ((0.01, 1), (60, 2), *[(60, 1)] * (number == signal.SIGTERM)):
-        with open(f"{room}/client.py", "w") as file:
-            file.write(CLIENT.replace("PAUSE", str(pause)))
-        has_begun = lambda: os.path.exists(f"{room}/called")
-        arguments = ["--client", "python3 client.py", "--workers", "2", "--save", "saved"]
-        status, report, errors = campaign(pst, room, arguments, number, signals, has_begun)
-        os.remove(f"{room}/called")
-        done, undrawn = counts(report)
-        if pause < 1:
-            check(f"{name} on clients", status == 3 and done + undrawn == 100000 and notice in errors, status, report, errors)
-        else:
-            check(f"{name} {signals} times on a call that hangs", status == 128 + number and not report and errors.startswith(notice), status, report, errors)
+        check_clients(pst, room, number, pause, signals)
+
+
+def check_clients(pst, room, number, pause, signals):
+    """Checks what a campaign on clients does at so many signals. With a long pause the first call of each worker hangs."""
+    with open(f"{room}/client.py", "w") as file:
+        file.write(CLIENT.replace("PAUSE", str(pause)))
+    name, has_begun = number.name, lambda: os.path.exists(f"{room}/called")
+    arguments = ["--client", "python3 client.py", "--workers", "2", "--save", "saved"]
+    status, report, errors, seconds = campaign(pst, room, arguments, number, signals, has_begun)
+    os.remove(f"{room}/called")
+    done, undrawn = counts(report)
+    if pause < 1:
+        check(f"{name} on clients", status == 3 and done + undrawn == 100000 and notice_of(number, 1) in errors, status, report, errors)
+    else:
+        is_reported = status == 3 and undrawn == 99998 and LOST.search(report) and ": ended with the campaign\n" in errors
+        is_soon = seconds < 20 if signals == 1 else seconds < 8
+        check(f"{name} {signals} times on a call that hangs", is_reported and is_soon and errors.startswith(notice_of(number, 1)), status, seconds, report, errors)
 
 
 def main(pst):

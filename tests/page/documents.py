@@ -13,7 +13,7 @@ RUNS = {
     "bank": EXPLAINED + "bank.runs", "cache": EXPLAINED + "cache.runs", "counter": EXPLAINED + "counter.runs", "deep": EXPLAINED + "deep.runs",
     "faults": EXPLAINED + "faults.runs", "four": "tests/page/four.runs", "hostile": "tests/page/hostile.runs", "init": EXPLAINED + "init.runs",
     "any": "--order none tests/page/times.runs", "lost": "examples/lost.runs", "queue": EXPLAINED + "queue.runs", "reads": "examples/reads.runs", "registry": "examples/registry.runs",
-    "silent": "examples/silent.runs", "store": "examples/store.runs", "times": "tests/page/times.runs", "wide": EXPLAINED + "wide.runs",
+    "silent": "examples/silent.runs", "unknown": EXPLAINED + "unknown.runs", "store": "examples/store.runs", "times": "tests/page/times.runs", "wide": EXPLAINED + "wide.runs",
 }
 
 

@@ -7,9 +7,9 @@ _pst() {
     return
   fi
   case $command in
-    campaign) options="--client --shared --seed --trials --commands --branches --suffix --repeats --workers --limit --order --max-failures --stop-file --save --html --format --width --output --quiet --help" ;;
-    run) options="--client --shared --branches --repeats --order --format --width --output --quiet --help" ;;
-    judge) options="--keep-going --all-messages --failures --order --stream --format --output --quiet --help" ;;
+    campaign) options="--client --shared --seed --trials --commands --branches --suffix --repeats --workers --limit --order --seconds --max-failures --stop-file --save --html --junit --format --width --output --quiet --help" ;;
+    run) options="--client --shared --branches --repeats --require-items --order --format --width --output --quiet --help" ;;
+    judge) options="--keep-going --all-messages --failures --require-items --order --stream --format --output --quiet --help" ;;
     explain) options="--format --dot --all --width --color --item --failures --order --max --output --quiet --help" ;;
     generate) options="--first --trials --seed --commands --branches --suffix --format --output --quiet --help" ;;
     check) options="--format --output --quiet --help" ;;

@@ -3,12 +3,13 @@ complete -c pst -n __fish_use_subcommand -f -a "campaign run judge explain conve
 complete -c pst -n "__fish_seen_subcommand_from campaign run" -l client -r -d "a command that answers calls"
 complete -c pst -n "__fish_seen_subcommand_from campaign run" -l shared -d "one process has all branches"
 complete -c pst -n "__fish_seen_subcommand_from campaign run" -l branches -x -d "branches that run at once"
-for option in seed trials commands suffix repeats workers limit max-failures
+for option in seed trials commands suffix repeats workers limit max-failures seconds
   complete -c pst -n "__fish_seen_subcommand_from campaign" -l $option -x
 end
 complete -c pst -n "__fish_seen_subcommand_from campaign" -l save -r -d "a folder for the failures"
 complete -c pst -n "__fish_seen_subcommand_from campaign" -l stop-file -r -d "end once this file is there"
 complete -c pst -n "__fish_seen_subcommand_from campaign" -l html -r -d "a page that explains the failures"
+complete -c pst -n "__fish_seen_subcommand_from campaign" -l junit -r -d "the results as JUnit XML"
 complete -c pst -n "__fish_seen_subcommand_from run" -l repeats -x -d "drives of a case"
 complete -c pst -n "__fish_seen_subcommand_from generate" -l first -x -d "the first trial"
 for option in trials seed commands branches suffix
@@ -30,6 +31,7 @@ complete -c pst -n "__fish_seen_subcommand_from explain" -l item -x -d "the item
 complete -c pst -n "__fish_seen_subcommand_from convert" -l to -x -a "json trees" -d "how items are spelled"
 complete -c pst -n "__fish_seen_subcommand_from fmt" -l check -d "name the files that would change"
 complete -c pst -n "__fish_seen_subcommand_from judge explain" -l failures -d "leave out what is explained or valid"
+complete -c pst -n "__fish_seen_subcommand_from judge run" -l require-items -d "refuse an input without items"
 complete -c pst -n "__fish_seen_subcommand_from new" -l client -x -a "python bash go c node"
 complete -c pst -n "__fish_seen_subcommand_from new" -l server -f -d "a client of a server, in python or node"
 complete -c pst -n "__fish_seen_subcommand_from jitter" -l seed -x -d "chooses the pauses"

@@ -17,6 +17,7 @@ use Rattle.pst_cli.specs.declared.absent.Absence.TheVariants.{NoSystem}
 use Rattle.pst_cli.specs.declared.answer.OutputForm.{OutputForm}
 use Rattle.pst_cli.specs.declared.answer.Status.{Status}
 use Rattle.pst_cli.specs.declared.answer.Status.TheVariants.{Accepted, Failed, Refused, Lost}
+use Rattle.pst_cli.specs.declared.campaign.UndrawnTrials.{UndrawnTrials}
 use Rattle.pst_cli.specs.declared.drive.DriveOptions.{DriveOptions}
 use Rattle.pst_input.specs.Meaning.{Means}
 use Rattle.pst_judge.specs.declared.by_order.CallOrder.{CallOrder}
@@ -31,11 +32,12 @@ module _ (goes : Bool → List ℕ → Status → Type 0) (input plain : List �
   drives_meant options answers fails reset_fails r =
       meant (memory_of options.form) (IsDriveAnswer options answers fails reset_fails) goes input plain means r
 
-  pub trials_meant : {S : Type 0} (form : OutputForm) (may_end : Type 0) (may_give : Gives S) (settings : Settings) (systems : List S)
-      → Reaches (memory_of form) (IsCampaignAnswer form may_end may_give settings systems plain) goes
-      → Reaches (memory_of form) (IsMeant (IsCampaignAnswer form may_end may_give settings systems) input) goes
-  trials_meant form may_end may_give settings systems r =
-      meant (memory_of form) (IsCampaignAnswer form may_end may_give settings systems) goes input plain means r
+  pub trials_meant : {S : Type 0} (form : OutputForm) (undrawn : UndrawnTrials) (may_end : Type 0) (may_give : Gives S)
+      (settings : Settings) (systems : List S)
+      → Reaches (memory_of form) (IsCampaignAnswer form undrawn may_end may_give settings systems plain) goes
+      → Reaches (memory_of form) (IsMeant (IsCampaignAnswer form undrawn may_end may_give settings systems) input) goes
+  trials_meant form undrawn may_end may_give settings systems r =
+      meant (memory_of form) (IsCampaignAnswer form undrawn may_end may_give settings systems) goes input plain means r
 
   pub stream_meant : (order : CallOrder) (bytes : List ℕ) → Reaches memory_line (IsStreamOutput ⊤ order plain bytes) goes
       → Reaches memory_line (IsMeant (λ p. IsStreamOutput ⊤ order p bytes) input) goes

@@ -10,6 +10,7 @@ use Rattle.pst.specs.declared.commands.Command.{Command}
 use Rattle.pst.specs.declared.commands.Command.TheVariants as command
 use Rattle.pst.specs.declared.subcommands.Subcommand.{Subcommand}
 use Rattle.pst.specs.declared.subcommands.Subcommand.TheVariants as subcommand
+use Rattle.pst_cli.specs.declared.campaign.UndrawnTrials.TheVariants.{LeftOut}
 use Rattle.pst_trial.specs.Settings.{AreInRange}
 
 -- its numbers are in their ranges
@@ -63,12 +64,25 @@ HasNumbersOf arguments (command.Stream order) = ⊤
 HasNumbersOf arguments (command.Run run) = ⊤
 HasNumbersOf arguments (command.Campaign campaign) = GivesTrials arguments campaign.settings
 
--- The arguments of a subcommand may choose the command: it is one of this subcommand, it judges a stream only with `--stream`, and
--- the numbers of its cases are those of the options.
+-- numbers that are not drawn are left out of the status of a campaign
+abbrev pub LeavesOutUndrawn : Command → Type 0
+LeavesOutUndrawn (command.OfInput c) = ⊥
+LeavesOutUndrawn (command.Judge options) = ⊥
+LeavesOutUndrawn (command.Stream order) = ⊥
+LeavesOutUndrawn (command.Run run) = ⊥
+LeavesOutUndrawn (command.Campaign campaign) = campaign.undrawn ≡ LeftOut
+
+-- the arguments say when a campaign ends: after some seconds, or when a file is there
+abbrev pub SaysWhenToEnd : ArgMatches → Type 0
+SaysWhenToEnd arguments = IsGiven arguments (codes "seconds") ⊎ IsGiven arguments (codes "stop-file")
+
+-- The arguments of a subcommand may choose the command: it is one of this subcommand, it judges a stream only with `--stream`, the
+-- numbers of its cases are those of the options, and it leaves out numbers that are not drawn only if they say when to end.
 pub record MayChoose (c : Subcommand) (arguments : ArgMatches) (command : Command) : Type 0 where
   pub named : subcommand_of command ≡ c
   pub stream : IsUnset arguments (codes "stream") → IsOfStream command → ⊥
   pub numbers : HasNumbersOf arguments command
+  pub undrawn : LeavesOutUndrawn command → SaysWhenToEnd arguments
 
 -- they choose none: the options give no settings of cases or trials in their ranges
 abbrev pub ChoosesNone : Subcommand → ArgMatches → Type 0

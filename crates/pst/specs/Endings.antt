@@ -33,9 +33,13 @@ use Rattle.pst_system.specs.Kept.{Answers, Fails, ResetFails}
 abbrev pub IsLostOnlyIf : (is_wanted : Type 0) → Status → Type 0
 IsLostOnlyIf is_wanted status = (status ≡ Accepted) ⊎ (is_wanted × (status ≡ Lost))
 
--- a page is wanted, or the failures are saved
+-- a page or results as JUnit XML are wanted
+abbrev pub WritesFiles : CampaignCommand → Type 0
+WritesFiles campaign = IsSome campaign.page ⊎ IsSome campaign.junit
+
+-- these, or the failures are saved
 abbrev pub WritesBeside : CampaignCommand → Type 0
-WritesBeside campaign = IsSome campaign.page ⊎ IsSome campaign.saver
+WritesBeside campaign = WritesFiles campaign ⊎ IsSome campaign.saver
 
 -- ---- systems that were made, or not
 
@@ -74,12 +78,12 @@ module _ {S : Type 0} (goes : Goes) (systems : Result (Vec S Global) SystemsErro
     EndsRun run status = Drives run.options status ⊎ Refuses run.system status
 
     module _ (may_end : Type 0) where
-      -- the report of a campaign on the systems was sent, which a signal may end if `may_end`
+      -- the report of a campaign on the systems was sent, which a signal, a file or a limit of time may end if `may_end`
       abbrev pub Reports : CampaignCommand → Status → Type 0
       Reports campaign status =
           (all : List S) × AreMade systems all
           × Reaches (memory_of campaign.form)
-          (IsMeant (IsCampaignAnswer campaign.form (IsSome campaign.most ⊎ may_end)
+          (IsMeant (IsCampaignAnswer campaign.form campaign.undrawn (IsSome campaign.most ⊎ may_end)
           (λ s. MayGive (answers s) (fails s) (reset_fails s)) campaign.settings all) input) (goes status)
 
       -- the status is that of the report; or `Lost`, if what is wanted beside it cannot be written

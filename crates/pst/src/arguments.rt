@@ -122,8 +122,8 @@ fn line_on_unknown_command(alloc: Global, name: &str) -> Result<String, AllocErr
 /// Returns a line on what to do in place of the option `unknown` of `subcommand`, or an empty text.
 fn line_on_unknown_option(subcommand: &str, unknown: &str) -> &'static str {
     match (subcommand, unknown) {
-        ("campaign", "--seconds" | "--minutes" | "--time" | "--timeout" | "--duration") => {
-            "  tip: `timeout -s INT 10 ./pst campaign ..` ends a campaign after ten seconds, with its report\n\n"
+        ("campaign", "--minutes" | "--time" | "--timeout" | "--duration") => {
+            "  tip: `--seconds 10` begins no trial after ten seconds, and the campaign ends with its report\n\n"
         }
         ("explain", "--stream" | "--max") => {
             "  tip: cut out the line of an item: `sed -n 7p RUNS | pst explain MODEL -`\n\n"

@@ -2,7 +2,7 @@
 ghost use Rattle.std.specs.Prelude.{◌≡◌, ◌⊎◌, IfErr, IfOk, IsSome, codes};
 ghost use Rattle.pst_campaign.specs.Entries.{MayGive};
 ghost use Rattle.pst.specs.Commands.{IsGiven, SavesFailures};
-ghost use Rattle.pst.specs.Endings.{EndsCampaign, IsLostOnlyIf, WritesBeside};
+ghost use Rattle.pst.specs.Endings.{EndsCampaign, IsLostOnlyIf, WritesBeside, WritesFiles};
 ghost use Rattle.pst_cli.specs.Answering.{Delivers, Reaches, Stands, memory_of};
 ghost use Rattle.pst_cli.specs.Commands.{IsCampaignAnswer};
 ghost use Rattle.pst_cli.specs.declared.answer.Status.TheVariants.{Lost};
@@ -19,7 +19,9 @@ use crate::systems::system_name_from_arguments_or_empty;
 use crate::{diagnostics, failure_explanations, outputs, page};
 use clap::ArgMatches;
 use pst_campaign::{EarlyStop, Signal};
-use pst_cli::{Absence, CampaignEnd, Destinations, KnownSystem, Status, refuse, report_campaign};
+use pst_cli::{
+    Absence, CampaignEnd, Destinations, KnownSystem, ReportOptions, Status, refuse, report_campaign,
+};
 use pst_input::InputText;
 use pst_sexpr::Sink;
 use pst_sources::{Input, SourceFile};
@@ -50,12 +52,16 @@ fn run_campaign_with_progress<
     requires ranges { AreInRange campaign.settings }
     requires stands { Stands F.broken W.broken to.old }
     ensures { Reaches (memory_of campaign.entry.form)
-        (IsCampaignAnswer campaign.entry.form (IsSome campaign.entry.most ⊎ N.may_be_given signal)
+        (IsCampaignAnswer campaign.entry.form campaign.entry.undrawn (IsSome campaign.entry.most ⊎ N.may_be_given signal)
         (λ s. MayGive ((System-box s).answers s.value) ((System-box s).fails s.value)
         ((System-box s).reset_fails s.value)) campaign.entry.settings systems.items input.now)
         (Delivers F.taken F.broken W.taken W.broken to.old to.new result.0) }
 {
-    let (alloc, settings, form) = (rt.alloc(), campaign.settings, campaign.form);
+    let (alloc, settings) = (rt.alloc(), campaign.settings);
+    let options = ReportOptions {
+        form: campaign.form,
+        undrawn: campaign.undrawn,
+    };
     let progress = if context.terminals.errors && !context.arguments.get_flag("quiet") {
         CampaignProgress::shared(alloc, settings.trials as u64)
     } else {
@@ -73,7 +79,7 @@ fn run_campaign_with_progress<
         settings,
         systems,
         &watch,
-        form,
+        options,
         &mut display,
         to,
     )
@@ -93,6 +99,36 @@ fn write_page_if_wanted<R: Eprint + Files + AllocGlobal>(
         Some(name) => page::write_campaign_page(rt, name, files, end),
         None => Status::Accepted,
     }
+}
+
+/// Writes the results of a campaign as JUnit XML to the file `name`, if there is one. The status is `Lost` if it cannot be
+/// written, and else `Accepted`.
+fn write_junit_xml_if_wanted<R: Eprint + Files + AllocGlobal>(
+    rt: &R,
+    name: Option<&str>,
+    end: &CampaignEnd,
+) -> Status
+    ensures { IsLostOnlyIf (IsSome name.entry) result }
+{
+    match name {
+        Some(name) => page::write_campaign_junit_xml(rt, name, end),
+        None => Status::Accepted,
+    }
+}
+
+/// Writes the page of a campaign and its results as JUnit XML, those that are wanted. The status is `Lost` if one cannot be
+/// written, and else `Accepted`.
+fn write_files_if_wanted<R: Eprint + Files + AllocGlobal>(
+    rt: &R,
+    campaign: CampaignCommand<'_, '_>,
+    files: &[SourceFile<'_>],
+    end: &CampaignEnd,
+) -> Status
+    ensures { IsLostOnlyIf (WritesFiles campaign.entry) result }
+{
+    let page = write_page_if_wanted(rt, campaign.page, files, end);
+    let junit = write_junit_xml_if_wanted(rt, campaign.junit, end);
+    page.or_worse(junit)
 }
 
 /// Saves the failures of a campaign, if they are saved. The status is `Lost` if one cannot be written, and else `Accepted`.
@@ -134,7 +170,7 @@ fn print_messages_on_campaign<R: Eprint + AllocGlobal>(
     }
 }
 
-/// Writes what a campaign came to: the page; if `has_messages`, messages on standard error; and the failures in a folder.
+/// Writes what a campaign came to: its files; if `has_messages`, messages on standard error; and the failures in a folder.
 fn write_end_of_campaign<R: Eprint + Files + AllocGlobal>(
     rt: &R,
     context: SubcommandContext<'_, '_>,
@@ -145,17 +181,17 @@ fn write_end_of_campaign<R: Eprint + Files + AllocGlobal>(
 ) -> Status
     ensures { IsLostOnlyIf (WritesBeside campaign.entry) result }
 {
-    let page = write_page_if_wanted(rt, campaign.page, input.files, end);
+    let written = write_files_if_wanted(rt, campaign, input.files, end);
     if has_messages {
         print_messages_on_campaign(rt, campaign, input, end, context.line_width);
     }
     let is_quiet = context.arguments.get_flag("quiet");
     let saved = save_failures_if_wanted(rt, campaign.saver, end, is_quiet);
-    page.or_worse(saved)
+    written.or_worse(saved)
 }
 
 /// Writes what is wanted beside the report of a campaign: if it began, what it came to; and if `has_messages` and no trial
-/// is without a case, the warnings on the model on standard error. The status is `Lost` if the page or a failure cannot be
+/// is without a case, the warnings on the model on standard error. The status is `Lost` if a file or a failure cannot be
 /// written, and else `Accepted`.
 fn write_beside_report<R: Eprint + Files + AllocGlobal>(
     rt: &R,
@@ -249,9 +285,31 @@ pub fn begin_campaign_if_systems_are_made<'a, R: Eprint + Files + AllocGlobal>(
     }
 }
 
+/// Writes to standard error that no call was made in any trial, if each trial passed and that is so, and what to mend.
+fn print_message_if_nothing_was_tested<R: Eprint>(
+    rt: &R,
+    status: Status,
+    end: &Option<CampaignEnd>,
+) {
+    let Some(end) = end else {
+        return;
+    };
+    if status != Status::Accepted || end.has_call() {
+        return;
+    }
+    if end.entries().is_empty() {
+        let _ = eprintln!(rt; "pst: nothing was tested: --trials is 0");
+    } else {
+        let _ = eprintln!(rt;
+            "pst: nothing was tested: no trial made a call. Let `command` list a call whose precondition is true in the initial state"
+        );
+    }
+}
+
 /// Runs a campaign with a worker for each of the systems, and writes what is wanted beside its report. It refuses if the
 /// systems were not made, or there are none. Unless the arguments forbid it, a line on standard error displays the
-/// progress, if that is a terminal, and explanations and warnings follow after the report.
+/// progress, if that is a terminal, and explanations and warnings follow after the report. That nothing was tested is said
+/// in any case.
 pub fn run_campaign_on_systems<
     F: Sink,
     W: Sink,
@@ -288,6 +346,7 @@ pub fn run_campaign_on_systems<
         signal,
         to,
     );
+    print_message_if_nothing_was_tested(rt, status, &end);
     let has_messages = !context.arguments.get_flag("quiet") && !outputs::has_output_failed(to);
     let beside = write_beside_report(rt, context, campaign, plain, has_messages, &end);
     status.or_worse(beside)

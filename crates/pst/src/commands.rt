@@ -1,9 +1,10 @@
 //! What the arguments ask for. This is the one place where words become the options that an output depends on.
-ghost use Rattle.std.specs.Prelude.{◌≡◌, IfNone, IfSome};
+ghost use Rattle.std.specs.Prelude.{◌≡◌, IfNone, IfSome, IsTrue};
 ghost use Rattle.pst.specs.Answering.{HasTrials};
-ghost use Rattle.pst.specs.Commands.{ChoosesNone, IsInRange, MayChoose, subcommand_of_input};
+ghost use Rattle.pst.specs.Commands.{ChoosesNone, IsGiven, IsInRange, MayChoose, SaysWhenToEnd, subcommand_of_input};
 ghost use Rattle.pst.specs.Numbers.{GivesTrials, LacksTrials};
 ghost use Rattle.pst.specs.declared.subcommands.Subcommand.TheVariants as subcommand;
+ghost use Rattle.pst_cli.specs.declared.campaign.UndrawnTrials.TheVariants.{LeftOut};
 ghost use Rattle.pst_trial.specs.Settings.{AreInRange};
 
 use crate::answering::InputCommand;
@@ -18,7 +19,7 @@ use crate::subcommands::{
 use crate::systems::system_name_from_arguments_or_empty;
 use crate::{driving, formatting, judging};
 use clap::ArgMatches;
-use pst_cli::{CallOrder, DriveOptions, JudgeOptions, OutputForm};
+use pst_cli::{CallOrder, DriveOptions, JudgeOptions, OutputForm, UndrawnTrials};
 use pst_sources::SourceFile;
 use pst_trial::Settings;
 use std::rt::Env;
@@ -53,10 +54,14 @@ pub struct CampaignCommand<'m, 'a> {
     pub system: &'m str,
     pub settings: Settings,
     pub form: OutputForm,
+    /// What trials that were not made mean for its status, if it ends early.
+    pub undrawn: UndrawnTrials,
     /// How many trials that did not pass end the campaign, if there is a limit.
     pub most: Option<u64>,
     /// The file of the page of failures, if it is written.
     pub page: Option<&'m str>,
+    /// The file of the results as JUnit XML, if it is written.
+    pub junit: Option<&'m str>,
     /// The folder for failures, if they are saved.
     pub saver: Option<&'a FailureSaver<'m>>,
 }
@@ -95,6 +100,28 @@ fn run_command_from_arguments<'m>(arguments: &ArgMatches<'m>) -> RunCommand<'m> 
     }
 }
 
+/// Returns whether the option has a value.
+fn is_option_given(arguments: &ArgMatches<'_>, option: &str) -> bool
+    ensures { IsTrue result → IsGiven arguments.now option.now }
+{
+    match arguments.get_str(option) {
+        Some(_) => true,
+        None => false,
+    }
+}
+
+/// Returns what trials that were not made mean for the status of a campaign: they are left out if the arguments say when it
+/// ends, by `--seconds` or `--stop-file`.
+fn undrawn_trials_from_arguments(arguments: &ArgMatches<'_>) -> UndrawnTrials
+    ensures { (result ≡ LeftOut) → SaysWhenToEnd arguments.now }
+{
+    if is_option_given(arguments, "seconds") || is_option_given(arguments, "stop-file") {
+        UndrawnTrials::LeftOut
+    } else {
+        UndrawnTrials::Missing
+    }
+}
+
 /// Returns which campaign the arguments choose. `saver` saves its failures.
 fn campaign_command_from_arguments<'m, 'a>(
     arguments: &ArgMatches<'m>,
@@ -102,6 +129,8 @@ fn campaign_command_from_arguments<'m, 'a>(
 ) -> Option<CampaignCommand<'m, 'a>>
     ensures range { IfSome result (λ campaign. AreInRange campaign.settings) }
     ensures given { IfSome result (λ campaign. GivesTrials arguments.now campaign.settings) }
+    ensures undrawn { IfSome result
+        (λ campaign. (campaign.undrawn ≡ LeftOut) → SaysWhenToEnd arguments.now) }
     ensures none { IfNone result (LacksTrials arguments.now) }
 {
     let settings = campaign_settings_from_arguments(arguments)?;
@@ -109,8 +138,10 @@ fn campaign_command_from_arguments<'m, 'a>(
         system: system_name_from_arguments_or_empty(arguments),
         settings,
         form: output_form_from_arguments(arguments),
+        undrawn: undrawn_trials_from_arguments(arguments),
         most: arguments.get_one("max-failures"),
         page: arguments.get_str("html"),
+        junit: arguments.get_str("junit"),
         saver,
     })
 }

@@ -90,11 +90,13 @@ Examples:
 The report is on standard output; `pst help verdicts` explains its lines. Standard error then explains the failure with
 the fewest calls, and the first trial without a case; -q leaves this out.
 
-A campaign that ends early, by --max-failures, --stop-file, Ctrl-C or TERM, finishes the trials that run, and its report counts
-the others as undrawn.
+--seed random draws a seed, which the second line of the report has.
 
-Exit status: 0 if all trials passed, 1 if some trial did not, 2 if the input is refused, 3 if a trial was lost, the campaign
-ended early and no trial failed, an allocation failed or the output cannot be written.";
+A campaign that ends early, by --seconds, --max-failures, --stop-file, Ctrl-C or TERM, finishes the trials that run, and its
+report counts the others as undrawn. With --seconds or --stop-file the exit status is that of the trials that were made.
+
+Exit status: 0 if all trials passed, 1 if some trial did not, 2 if the input is refused, 3 if a trial was lost, a signal ended
+the campaign and no trial failed, no trial was made, an allocation failed or the output cannot be written.";
 
 /// After the help of `generate`.
 pub const GENERATE: &str = "\
@@ -123,7 +125,8 @@ failed or a file cannot be written.";
 pub const VERDICTS: &str = "\
 K is the number of an item or a trial, and C that of a command in its item, from 1: first the prefix, then each branch,
 then the suffix; 0 is the initial state. W is an interleaving: its letters are the branches L, R, S and T, each for its
-next command; `-` has no letters. With --order time only interleavings in the order of the recorded times count.
+next command; `-` has no letters. In a run with `unknown` replies P is such a call of the prefix and `.` a command of the
+suffix. With --order time only interleavings in the order of the recorded times count.
 CALLBACK is init, command, pre, next or post. FAULT is Overflow (beyond 64 bits), DivZero (a division by 0), Index (no
 such item of a list), Missing (no such key of a map), TooLong (a list, a text or a map over its limit) or Turns (the
 callback takes too many steps).
@@ -133,7 +136,9 @@ The verdict on a recorded run:
   unexplained far N     They fit no interleaving. In the one that gets furthest, N commands fit before one does not.
   fault C CALLBACK FAULT
                         They fit no interleaving, and in one a callback of the model faults at command C.
-  broken C              The reply of command C is not a value of its type, or the call failed or was not made.
+  broken C              The reply of command C is not a value of its type, or the call failed or was not made. Or it was
+                        called after an `unknown` call of its part, or without a result that it uses; or its reply is
+                        `unknown`, and the `next` of its operation uses `r`.
 
 The verdict on a case:
   valid                 In every interleaving each precondition is true and there is a next state.

@@ -41,7 +41,7 @@ use std::io::IsTerminal;
 use std::process::ExitCode;
 use std::sync::Arc;
 use std::thread::{Builder, JoinHandle};
-use stop_signals::StopFileState;
+use stop_signals::StopState;
 use systems::{ChosenSystems, SystemsError};
 use terminal::Terminals;
 
@@ -128,12 +128,9 @@ fn main(rt: HostRuntime) -> ExitCode {
                     systems = systems_with_added_system(systems, system);
                 }
             }
-            let start_thread = |watched: Arc<StopFileState, Global>| -> Option<JoinHandle<()>> {
+            let start_thread = |watched: Arc<StopState, Global>| -> Option<JoinHandle<()>> {
                 Builder::new()
-                    .spawn(
-                        &rt,
-                        move || stop_signals::watch_for_stop_file(&rt, &watched),
-                    )
+                    .spawn(&rt, move || stop_signals::watch_for_end(&rt, &watched))
                     .ok()
             };
             Ok(running::run_subcommand_while_watching(

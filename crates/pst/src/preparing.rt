@@ -77,7 +77,8 @@ fn input_file_names_from_arguments<'a>(matches: &'a ArgMatches<'_>) -> &'a [&'a 
 }
 
 /// Refuses an unknown system, a stream whose model is not in a file of its own, output to a file of the
-/// input, a file or `-` as the folder of failures, trials that have no number, and a page that cannot be written.
+/// input, a file or `-` as the folder of failures, trials that have no number, and a page or results as JUnit XML that cannot
+/// be written.
 /// The error is the status that the program ends with.
 fn refuse_invalid_arguments<R: Runtime + AllocGlobal>(
     rt: &R,
@@ -97,13 +98,14 @@ fn refuse_invalid_arguments<R: Runtime + AllocGlobal>(
     let written = [
         ("-o", output_file_name_from_arguments(matches)),
         ("--html", page::html_file_name_from_arguments(matches)),
+        ("--junit", page::junit_file_name_from_arguments(matches)),
     ];
     for (option, name) in written {
         outputs::refuse_to_overwrite_input(rt, inputs, option, name, is_quiet)?;
     }
     saving::refuse_file_as_save_folder(rt, matches)?;
     generating::refuse_generate_trial_numbers_that_overflow(rt, matches)?;
-    page::refuse_unwritable_html_page(rt, matches)
+    page::refuse_unwritable_files_beside_report(rt, matches)
 }
 
 /// Reads the files that the arguments name, and prepares their input. If that fails, or the arguments are refused, or

@@ -14,7 +14,7 @@ use crate::result_file::{
     ResultFile, open_or_create_file_without_emptying, status_after_ending_result_file,
     status_after_reporting_output_failure, writer_and_error_if_failed,
 };
-use crate::stop_signals::{StopFileState, StopFileWatch, StopFlag};
+use crate::stop_signals::{StopFlag, StopState, StopWatch};
 use crate::subcommands::Subcommand;
 use crate::systems::SystemsError;
 use crate::terminal::{Terminals, line_width_from_arguments_or_environment};
@@ -228,6 +228,20 @@ fn print_outcome_messages_unless_quiet<R: Eprint + AllocGlobal>(
     summary::print_summary_if_several_items(rt, counts);
 }
 
+/// Returns the status of the command, or `Refused` if the arguments require items and there was none.
+fn refuse_if_required_items_are_missing<R: Eprint + AllocGlobal>(
+    rt: &R,
+    context: SubcommandContext<'_, '_>,
+    input: &InputText<'_>,
+    status: Status,
+    counts: &ItemResultCounts,
+) -> Status {
+    let Some((subcommand, arguments)) = context.matches.subcommand() else {
+        return status;
+    };
+    summary::status_with_required_items(rt, subcommand, arguments, input.plain(), status, counts)
+}
+
 /// Runs the subcommand with its output to the file that the arguments name, or to standard output. If the input is refused,
 /// the refusal goes to standard output, and the file stays as it was. Unless the arguments forbid them, messages on
 /// standard error follow; their last line sums up the items of `judge` and `run`.
@@ -261,6 +275,7 @@ fn run_subcommand_to_chosen_output<
     let stream = rt.reader();
     let status = run_subcommand(rt, context, input, stream, systems, &mut counts, &mut to);
     print_outcome_messages_unless_quiet(rt, context, input.plain_input(), status, &counts);
+    let status = refuse_if_required_items_are_missing(rt, context, input, status, &counts);
     let Destinations { file, out } = to;
     let (_, failure) = writer_and_error_if_failed(out);
     let status = status_after_reporting_output_failure(rt, status, None, failure);
@@ -317,11 +332,11 @@ fn run_subcommand_while_watching_clients<
     status
 }
 
-/// Runs the subcommand, while threads look for the file that ends a campaign and for clients that do not answer.
-/// `start_thread` starts the thread that looks for the file.
+/// Runs the subcommand, while threads look for what ends a campaign from outside and for clients that do not answer.
+/// `start_thread` starts the thread that looks for the end of a campaign.
 pub fn run_subcommand_while_watching<
     R: Runtime + AllocGlobal + Threads + Wait + Sync + Copy + Drop + Send + 'static,
-    F: Fn(Arc<StopFileState, Global>) -> Option<JoinHandle<()>>,
+    F: Fn(Arc<StopState, Global>) -> Option<JoinHandle<()>>,
 >(
     rt: R,
     matches: &ArgMatches<'_>,
@@ -333,18 +348,12 @@ pub fn run_subcommand_while_watching<
     requires { F.IsAlwaysCallable start_thread.now }
 {
     let alloc = rt.alloc();
-    let Ok(has_appeared) = stop_signals::shared_flag_whether_stop_file_exists(&rt, alloc, matches)
-    else {
+    let Ok(stop) = stop_signals::shared_stop_flag_if_wanted(&rt, alloc, matches) else {
         return diagnostics::print_memory_refusal(&rt);
     };
-    let watch = StopFileWatch::start_if_file_is_named(alloc, matches, &has_appeared, start_thread);
+    let watch = StopWatch::start_if_wanted(alloc, matches, &stop, start_thread);
     let status = run_subcommand_while_watching_clients(
-        rt,
-        matches,
-        prepared,
-        terminals,
-        systems,
-        &has_appeared,
+        rt, matches, prepared, terminals, systems, &stop,
     );
     if let Some(watch) = watch {
         watch.end_thread_and_wait(&rt);

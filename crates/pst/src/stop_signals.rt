@@ -1,5 +1,5 @@
-//! The file that ends a campaign once it is there, and threads beside a command.
-//! The kit has no handler of signals: the launcher makes the file at Ctrl-C.
+//! What ends a campaign from outside, and threads beside a command: a file that appears, or a limit of time.
+//! The kit has no handler of signals: at Ctrl-C the launcher makes the file that `--interrupt-file` names.
 
 use crate::input;
 use clap::ArgMatches;
@@ -9,23 +9,41 @@ use std::rt::Files;
 use std::sync::atomic::{AtomicBool, Ordering};
 use std::sync::{Arc, Wait};
 use std::thread::{Builder, JoinHandle, Parker, Threads};
-use std::time::Duration;
+use std::time::{Clock, Duration, Instant};
 
-/// How many milliseconds pass between two looks for the file.
+/// How many milliseconds pass between two looks for the files.
 const PAUSE: u64 = 100;
 
-/// The name of the file that ends a campaign, if the arguments give one.
-pub fn stop_file_name_from_arguments<'a>(matches: &ArgMatches<'a>) -> Option<&'a str> {
-    match matches.subcommand() {
-        Some(("campaign", arguments)) => arguments.get_str("stop-file"),
-        _ => None,
-    }
+/// What ends a campaign from outside, by its arguments.
+#[derive(Clone, Copy, Drop)]
+struct StopConditions<'a> {
+    /// The names of files: it ends once one of them is there.
+    files: [Option<&'a str>; 2],
+    /// It ends after this number of seconds.
+    seconds: Option<u64>,
 }
 
-/// The flag of the file that ends a campaign: it is set once the file is there.
+/// Returns what ends a campaign from outside, if the arguments say so.
+fn stop_conditions_from_arguments<'a>(matches: &ArgMatches<'a>) -> Option<StopConditions<'a>> {
+    let Some(("campaign", arguments)) = matches.subcommand() else {
+        return None;
+    };
+    let stop_file = arguments.get_str("stop-file");
+    let interrupt_file = arguments.get_str("interrupt-file");
+    let seconds: Option<u64> = arguments.get_one("seconds");
+    if stop_file.is_none() && interrupt_file.is_none() && seconds.is_none() {
+        return None;
+    }
+    Some(StopConditions {
+        files: [stop_file, interrupt_file],
+        seconds,
+    })
+}
+
+/// The flag that ends a campaign: it is set once a file that ends it is there, or its time is over.
 #[derive(Clone, Copy, Drop)]
 pub struct StopFlag<'a> {
-    /// None if the arguments name no file.
+    /// None if the arguments name no file and no time.
     pub is_set: Option<&'a AtomicBool>,
 }
 
@@ -42,19 +60,47 @@ impl<'a> Signal for StopFlag<'a> {
     }
 }
 
-/// What the thread that looks for the file shares with the one that ends it.
+/// What the thread that looks for the files shares with the one that ends it.
 #[derive(Drop)]
-pub struct StopFileState {
-    name: String,
-    has_appeared: Arc<AtomicBool>,
+pub struct StopState {
+    files: Vec<String>,
+    seconds: Option<u64>,
+    is_set: Arc<AtomicBool>,
     end: EndSignal,
 }
 
-/// Looks for the file until it is there or the campaign is over.
-pub fn watch_for_stop_file<R: Wait + Files>(rt: &R, watched: &StopFileState) {
+/// Returns whether this number of seconds has passed since `began`, also if the clock cannot be read. False without a number.
+fn have_seconds_passed<R: Clock>(rt: &R, began: &Option<Instant>, seconds: Option<u64>) -> bool {
+    let Some(seconds) = seconds else {
+        return false;
+    };
+    let Some(began) = began else {
+        return true;
+    };
+    match began.elapsed(rt) {
+        Ok(passed) => passed.as_secs() >= seconds,
+        Err(_) => true,
+    }
+}
+
+/// Returns whether one of the files can be opened.
+fn is_one_file_there<R: Files>(rt: &R, files: &[String]) -> bool {
+    for name in files {
+        if input::can_file_be_opened(rt, name.as_str()) {
+            return true;
+        }
+    }
+    false
+}
+
+/// Sets the flag once one of the files is there or the time is over, unless the campaign is over before.
+pub fn watch_for_end<R: Wait + Files + Clock>(rt: &R, watched: &StopState) {
+    let began = Instant::now(rt).ok();
     for _ in rt.forever() {
-        if input::can_file_be_opened(rt, watched.name.as_str()) {
-            watched.has_appeared.store(true, Ordering::SeqCst);
+        if is_one_file_there(rt, watched.files.as_slice())
+            || have_seconds_passed(rt, &began, watched.seconds)
+        {
+            watched.is_set.store(true, Ordering::SeqCst);
             return;
         }
         if watched.end.wait(rt, PAUSE) {
@@ -63,59 +109,75 @@ pub fn watch_for_stop_file<R: Wait + Files>(rt: &R, watched: &StopFileState) {
     }
 }
 
-/// A thread that looks for the file.
+/// A thread that looks for the files and the time.
 #[derive(Drop)]
-pub struct StopFileWatch {
-    watched: Arc<StopFileState, Global>,
+pub struct StopWatch {
+    watched: Arc<StopState, Global>,
     thread: JoinHandle<()>,
 }
 
-/// A shared flag: whether the file that ends a campaign exists. `None` if the arguments name no file.
-pub fn shared_flag_whether_stop_file_exists<R: Files>(
+/// Returns a shared flag that ends a campaign. It is set if one of its files is there. `None` if the arguments name no file and no
+/// time.
+pub fn shared_stop_flag_if_wanted<R: Files>(
     rt: &R,
     alloc: Global,
     matches: &ArgMatches<'_>,
 ) -> Result<Option<Arc<AtomicBool>>, AllocError> {
-    let Some(name) = stop_file_name_from_arguments(matches) else {
+    let Some(conditions) = stop_conditions_from_arguments(matches) else {
         return Ok(None);
     };
-    let is_there = input::can_file_be_opened(rt, name);
+    let mut is_there = false;
+    for name in conditions.files {
+        if let Some(name) = name
+            && input::can_file_be_opened(rt, name)
+        {
+            is_there = true;
+        }
+    }
     Ok(Some(Arc::new(alloc, AtomicBool::new(is_there))?))
 }
 
-/// Returns what the campaign and the thread that looks for the file share, if the arguments name a file.
-fn stop_file_state_if_named(
+/// Returns what the campaign and the thread that looks for the files share, if the arguments name a file or a time.
+fn stop_state_if_wanted(
     alloc: Global,
     matches: &ArgMatches<'_>,
-    has_appeared: &Option<Arc<AtomicBool>>,
-) -> Option<Arc<StopFileState, Global>> {
-    let watched = StopFileState {
-        name: String::from_str(alloc, stop_file_name_from_arguments(matches)?).ok()?,
-        has_appeared: Arc::try_clone(has_appeared.as_ref()?).ok()?,
+    is_set: &Option<Arc<AtomicBool>>,
+) -> Option<Arc<StopState, Global>> {
+    let conditions = stop_conditions_from_arguments(matches)?;
+    let mut files = Vec::new(alloc);
+    for name in conditions.files {
+        if let Some(name) = name {
+            files.push(String::from_str(alloc, name).ok()?).ok()?;
+        }
+    }
+    let watched = StopState {
+        files,
+        seconds: conditions.seconds,
+        is_set: Arc::try_clone(is_set.as_ref()?).ok()?,
         end: EndSignal::new(),
     };
     Arc::new(alloc, watched).ok()
 }
 
-impl StopFileWatch {
-    /// Looks for the file that the arguments name, in a thread that `start_thread` starts: only `main` may name the type
-    /// of the handle that the thread takes along. `None` if the arguments name no file, or if there is no thread for it.
-    pub fn start_if_file_is_named<F: Fn(Arc<StopFileState, Global>) -> Option<JoinHandle<()>>>(
+impl StopWatch {
+    /// Looks for the files and the time that the arguments name, in a thread that `start_thread` starts: only `main` may name
+    /// the type of the handle that the thread takes along. `None` if the arguments name neither, or if there is no thread for it.
+    pub fn start_if_wanted<F: Fn(Arc<StopState, Global>) -> Option<JoinHandle<()>>>(
         alloc: Global,
         matches: &ArgMatches<'_>,
-        has_appeared: &Option<Arc<AtomicBool>>,
+        is_set: &Option<Arc<AtomicBool>>,
         start_thread: &F,
-    ) -> Option<StopFileWatch>
+    ) -> Option<StopWatch>
         requires { F.IsAlwaysCallable start_thread.now }
     {
-        let watched = stop_file_state_if_named(alloc, matches, has_appeared)?;
+        let watched = stop_state_if_wanted(alloc, matches, is_set)?;
         let thread = start_thread(Arc::try_clone(&watched).ok()?)?;
-        Some(StopFileWatch { watched, thread })
+        Some(StopWatch { watched, thread })
     }
 
     /// Ends the thread, and waits for it.
     pub fn end_thread_and_wait<R: Threads + Wait>(self, rt: &R) {
-        let StopFileWatch { watched, thread } = self;
+        let StopWatch { watched, thread } = self;
         watched.end.send();
         thread.join(rt)
     }

@@ -101,6 +101,7 @@ fn clap_command_for_judge<'a>(alloc: Global) -> Result<Command<'a>, AllocError> 
         .arg(order_option_for_recorded_runs(alloc))?
         .arg(options::text_or_json_format_option(alloc))?
         .arg(options::stream_option(alloc)?)?
+        .arg(options::require_items_option(alloc))?
         .arg(output_option(alloc))?
         .arg(quiet_option(alloc))
 }
@@ -115,6 +116,7 @@ fn clap_command_for_run<'a>(alloc: Global) -> Result<Command<'a>, AllocError> {
         .arg(options::client_branches_option(alloc)?)?
         .arg(model_and_items_files_argument(alloc))?
         .arg(options::repeats_option(alloc))?
+        .arg(options::require_items_option(alloc))?
         .arg(options::order_option_for_systems(alloc))?
         .arg(options::text_or_json_format_option(alloc))?
         .arg(line_width_option(alloc))?
@@ -136,10 +138,13 @@ fn clap_command_for_campaign<'a>(alloc: Global) -> Result<Command<'a>, AllocErro
     plan::add_campaign_number_options(alloc, command)?
         .arg(options::order_option_for_systems(alloc))?
         .arg(options::max_failures_option(alloc))?
+        .arg(options::seconds_option(alloc))?
         .arg(options::stop_file_option(alloc))?
+        .arg(options::interrupt_file_option(alloc))?
         .arg(options::save_failures_option(alloc))?
         .arg(options::text_or_json_format_option(alloc))?
         .arg(page::html_option(alloc))?
+        .arg(page::junit_option(alloc))?
         .arg(line_width_option(alloc))?
         .arg(output_option(alloc))?
         .arg(quiet_option(alloc))

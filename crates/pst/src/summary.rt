@@ -99,8 +99,48 @@ fn is_subcommand_noting_missing_items(subcommand: &str, arguments: &ArgMatches<'
     }
 }
 
-/// Writes to standard error that the command `subcommand` had no items, if its input has none after the model.
-/// `status` is the status of the command.
+/// Returns whether the command `subcommand` is to be refused if it has no items.
+fn are_items_required(subcommand: &str, arguments: &ArgMatches<'_>) -> bool {
+    matches!(subcommand, "judge" | "run") && arguments.get_flag("require-items")
+}
+
+/// Returns whether an accepted command had no items: the input has none after the model, or `judge --stream` read none.
+fn has_no_items(
+    alloc: Global,
+    subcommand: &str,
+    arguments: &ArgMatches<'_>,
+    input: &[u8],
+    counts: &ItemResultCounts,
+) -> bool {
+    if total_of_item_counts(counts) > 0 {
+        return false;
+    }
+    let is_stream = subcommand == "judge" && arguments.get_flag("stream");
+    is_stream || count_items_of_input(alloc, input) == Ok(0)
+}
+
+/// Returns `Refused`, and says so on standard error, if the arguments require items and the command `subcommand` had none;
+/// else `status`, the status of the command.
+pub fn status_with_required_items<R: Eprint + AllocGlobal>(
+    rt: &R,
+    subcommand: &str,
+    arguments: &ArgMatches<'_>,
+    input: &[u8],
+    status: Status,
+    counts: &ItemResultCounts,
+) -> Status {
+    if status != Status::Accepted
+        || !are_items_required(subcommand, arguments)
+        || !has_no_items(rt.alloc(), subcommand, arguments, input, counts)
+    {
+        return status;
+    }
+    let _ = eprintln!(rt; "pst: there is no case or run, and --require-items wants one");
+    Status::Refused
+}
+
+/// Writes to standard error that the command `subcommand` had no items, if its input has none after the model and the
+/// arguments do not require them. `status` is the status of the command.
 pub fn print_note_if_input_has_no_items<R: Eprint + AllocGlobal>(
     rt: &R,
     subcommand: &str,
@@ -112,6 +152,7 @@ pub fn print_note_if_input_has_no_items<R: Eprint + AllocGlobal>(
     if status != Status::Accepted
         || total_of_item_counts(counts) > 0
         || !is_subcommand_noting_missing_items(subcommand, arguments)
+        || are_items_required(subcommand, arguments)
     {
         return;
     }

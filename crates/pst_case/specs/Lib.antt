@@ -3,6 +3,7 @@ pub mod Shape
 pub mod OfModel
 pub mod Matches
 pub mod Recorded
+pub mod Unknown
 pub mod Times
 pub mod Renumber
 pub mod Laws

@@ -3,13 +3,14 @@ use Rattle.std.specs.Prelude.{◌≡◌, ◌==◌, ◌&&◌, ◌+◌, ℕ, nat_l
 use Rattle.pst_case.specs.declared.history.CallTime.{CallTime}
 use Rattle.pst_case.specs.declared.history.History.{History}
 use Rattle.pst_case.specs.declared.history.Reply.{Reply}
-use Rattle.pst_case.specs.declared.history.Reply.TheVariants.{Value as Answered, Misfit, Failed, NotRun}
+use Rattle.pst_case.specs.declared.history.Reply.TheVariants.{Value as Answered, Misfit, Failed, NotRun, Unknown}
 
 abbrev pub calls_of : Reply → ℕ
 calls_of (Answered v) = 1
 calls_of Misfit = 1
 calls_of Failed = 1
 calls_of NotRun = 0
+calls_of Unknown = 1
 
 -- how many of the commands with these replies were called
 abbrev pub called : List Reply → ℕ

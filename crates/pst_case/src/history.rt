@@ -17,8 +17,10 @@ pub enum Reply {
     Misfit,
     /// The call failed.
     Failed,
-    /// The command was not called, since an earlier one failed.
+    /// The command was not called, since an earlier one failed or has an unknown outcome.
     NotRun,
+    /// Nobody knows how the call ended: it may have taken effect, and late, or not at all.
+    Unknown,
 }
 
 /// When a call was invoked and when it completed: integers from 0, all on one clock.
@@ -57,6 +59,7 @@ impl Reply {
             Reply::Misfit => Ok(Reply::Misfit),
             Reply::Failed => Ok(Reply::Failed),
             Reply::NotRun => Ok(Reply::NotRun),
+            Reply::Unknown => Ok(Reply::Unknown),
         }
     }
 }
@@ -145,7 +148,7 @@ fn append_results(
     for reply in replies {
         match reply {
             Reply::Value(value) => results.push(Some(value.copy(alloc)?))?,
-            Reply::Misfit | Reply::Failed | Reply::NotRun => results.push(None)?,
+            Reply::Misfit | Reply::Failed | Reply::NotRun | Reply::Unknown => results.push(None)?,
         }
     }
     Ok(results)

@@ -49,7 +49,7 @@ fn is_recordable_reply(model: &Source, command: &Command, reply: &Reply) -> bool
 {
     match reply {
         Reply::Value(value) => has_result_type_of_command(model, command, value),
-        Reply::Misfit | Reply::Failed | Reply::NotRun => true,
+        Reply::Misfit | Reply::Failed | Reply::NotRun | Reply::Unknown => true,
     }
 }
 

@@ -71,7 +71,7 @@ fn calls_of(reply: &Reply) -> usize
 {
     match reply {
         Reply::NotRun => 0,
-        Reply::Value(_) | Reply::Misfit | Reply::Failed => 1,
+        Reply::Value(_) | Reply::Misfit | Reply::Failed | Reply::Unknown => 1,
     }
 }
 

@@ -7,13 +7,14 @@ use Rattle.pst_campaign.specs.Working.{AllGivenUnless, HasWorkers, IsCampaignFau
 use Rattle.pst_campaign.specs.declared.campaigns.CampaignFault.{CampaignFault}
 use Rattle.pst_cli.specs.Answering.{Reaches, refusal_of, refuses, sent_status, sent_text}
 use Rattle.pst_cli.specs.Answers.{Answers, IsRefusalBy, IsRefusedCampaign}
-use Rattle.pst_cli.specs.CampaignEnd.{IsEndFor, IsEndOf, IsEarlyOutput, IsNotBegun, IsReportObject, IsReportOf, ended, not_begun, not_loaded, unbegun}
+use Rattle.pst_cli.specs.CampaignEnd.{IsEndFor, IsEndOf, IsEarlyOutput, IsNotBegun, IsReportObject, IsReportOf, ended, not_begun, not_loaded, status_by, unbegun}
 use Rattle.pst_cli.specs.CampaignOutput.{Gives, plan_of}
 use Rattle.pst_cli.specs.CampaignView.{CampaignView, IsComplete}
 use Rattle.pst_cli.specs.declared.answer.Answer.{Answer}
 use Rattle.pst_cli.specs.declared.answer.OutputForm.{OutputForm}
 use Rattle.pst_cli.specs.declared.answer.Status.{Status}
 use Rattle.pst_cli.specs.declared.answer.Status.TheVariants.{Refused}
+use Rattle.pst_cli.specs.declared.campaign.UndrawnTrials.{UndrawnTrials}
 use Rattle.pst_cli.proofs.Printing.{answers_so, reaches}
 use Rattle.pst_ledger.specs.declared.entry.Entry.{Entry}
 use Rattle.pst_ledger.specs.declared.entry.Entry.TheVariants as entry
@@ -22,7 +23,6 @@ use Rattle.pst_rejudge.specs.Objects.{object_line}
 use Rattle.pst_rejudge.specs.declared.field.Field.{Field}
 use Rattle.pst_report.specs.InOrder.{IsOf, AreOf}
 use Rattle.pst_report.specs.Object.{report_fields}
-use Rattle.pst_report.specs.Status.{ended_status}
 use Rattle.pst_sexpr.specs.declared.form.Form.{Form}
 use Rattle.pst_system.specs.Kept.{Answers as SystemAnswers, Fails, ResetFails}
 use Rattle.pst_trial.specs.PlanView.{PlanView}
@@ -70,11 +70,12 @@ all_of may_end A F R p systems es h = are_of p 0 es (λ k e at.
 -- ---- a campaign that has ended
 
 -- the line of an object that begins with the fields of the report
-pub is_object : {E : Type 0} (c : CampaignView) (fields more : List Field)
-    → fields ≡ report_fields c.plan (ended_status c.entries) c.entries ++ more
-    → (r : Result (Vec ℕ Global) E) → IfOk r (λ line. line.items ≡ object_line fields) → IfOk r (λ line. IsReportObject c line.items)
-is_object c fields more same (Ok line) h = (more, h ∙ ap object_line same)
-is_object c fields more same (Err e) h = tt
+pub is_object : {E : Type 0} (undrawn : UndrawnTrials) (c : CampaignView) (fields more : List Field)
+    → fields ≡ report_fields c.plan (status_by undrawn c.entries) c.entries ++ more
+    → (r : Result (Vec ℕ Global) E) → IfOk r (λ line. line.items ≡ object_line fields)
+    → IfOk r (λ line. IsReportObject undrawn c line.items)
+is_object undrawn c fields more same (Ok line) h = (more, h ∙ ap object_line same)
+is_object undrawn c fields more same (Err e) h = tt
 
 if_ok_so : {A E : Type 0} (P Q : A → Type 0) → ((a : A) → P a → Q a) → (r : Result A E) → IfOk r P → IfOk r Q
 if_ok_so P Q f (Ok a) h = f a h
@@ -145,40 +146,41 @@ module _ {S : Type 0} (form : OutputForm) (may_end : Type 0) (may_give : Gives S
 
   -- ---- what is written of it
 
-  -- the answer to what became of a campaign, and its end
-  pub record AreTold (r : Result CampaignView (Result Answer AllocError)) (answer : Result Answer AllocError)
-      (end : Option CampaignView) : Type 0 where
-    pub is_end : IfOk r (IsEndOf may_end may_give settings systems input)
-    pub is_refusal : IfErr r (λ refusal. IfOk refusal (Answers (IsNotBegun form systems input)))
-    pub same : MatchResult r (λ c. end ≡ Some c) (λ _. end ≡ None)
-    pub report : IfOk r (λ c. IfOk answer (Answers (IsReportOf form c)))
-    pub refusal : IfErr r (λ refusal. answer ≡ refusal)
+  module _ (undrawn : UndrawnTrials) where
+    -- the answer to what became of a campaign, and its end
+    pub record AreTold (r : Result CampaignView (Result Answer AllocError)) (answer : Result Answer AllocError)
+        (end : Option CampaignView) : Type 0 where
+      pub is_end : IfOk r (IsEndOf may_end may_give settings systems input)
+      pub is_refusal : IfErr r (λ refusal. IfOk refusal (Answers (IsNotBegun form systems input)))
+      pub same : MatchResult r (λ c. end ≡ Some c) (λ _. end ≡ None)
+      pub report : IfOk r (λ c. IfOk answer (Answers (IsReportOf undrawn form c)))
+      pub refusal : IfErr r (λ refusal. answer ≡ refusal)
 
-  pub output_of : (r : Result CampaignView (Result Answer AllocError)) (answer : Result Answer AllocError) (end : Option CampaignView)
-      → AreTold r answer end → IfOk answer (Answers (IsEarlyOutput form may_end may_give settings systems input))
-  output_of (Ok c) answer end told =
-      if_ok_so _ _ (answers_so _ _ (λ text status so. ended c told.is_end so)) answer told.report
-  output_of (Err refusal) answer end told =
-      if_ok_so _ _ (answers_so _ _ (λ text status so. unbegun so)) answer
-      (subst (λ (x : Result Answer AllocError). IfOk x (Answers (IsNotBegun form systems input))) (sym told.refusal) told.is_refusal)
+    pub output_of : (r : Result CampaignView (Result Answer AllocError)) (answer : Result Answer AllocError) (end : Option CampaignView)
+        → AreTold r answer end → IfOk answer (Answers (IsEarlyOutput form undrawn may_end may_give settings systems input))
+    output_of (Ok c) answer end told =
+        if_ok_so _ _ (answers_so _ _ (λ text status so. ended c told.is_end so)) answer told.report
+    output_of (Err refusal) answer end told =
+        if_ok_so _ _ (answers_so _ _ (λ text status so. unbegun so)) answer
+        (subst (λ (x : Result Answer AllocError). IfOk x (Answers (IsNotBegun form systems input))) (sym told.refusal) told.is_refusal)
 
-  pub end_of : (r : Result CampaignView (Result Answer AllocError)) (answer : Result Answer AllocError) (end : Option CampaignView)
-      → AreTold r answer end → IfSome end (IsEndOf may_end may_give settings systems input)
-  end_of (Ok c) answer end told =
-      subst (λ (x : Option CampaignView). IfSome x (IsEndOf may_end may_give settings systems input)) (sym told.same) told.is_end
-  end_of (Err refusal) answer end told =
-      subst (λ (x : Option CampaignView). IfSome x (IsEndOf may_end may_give settings systems input)) (sym told.same) tt
+    pub end_of : (r : Result CampaignView (Result Answer AllocError)) (answer : Result Answer AllocError) (end : Option CampaignView)
+        → AreTold r answer end → IfSome end (IsEndOf may_end may_give settings systems input)
+    end_of (Ok c) answer end told =
+        subst (λ (x : Option CampaignView). IfSome x (IsEndOf may_end may_give settings systems input)) (sym told.same) told.is_end
+    end_of (Err refusal) answer end told =
+        subst (λ (x : Option CampaignView). IfSome x (IsEndOf may_end may_give settings systems input)) (sym told.same) tt
 
-  module _ (memory : List ℕ) (Goes : Bool → List ℕ → Status → Type 0) where
-    pub shown_of : (r : Result CampaignView (Result Answer AllocError)) (answer : Result Answer AllocError) (end : Option CampaignView)
-        → AreTold r answer end → Goes (refuses answer) (sent_text memory answer) (sent_status answer)
-        → MatchOption end (Reaches memory (IsNotBegun form systems input) Goes) (λ c. Reaches memory (IsReportOf form c) Goes)
-    shown_of (Ok c) answer end told sent =
-        let Shown : Option CampaignView → Type 0 =
-        λ x. MatchOption x (Reaches memory (IsNotBegun form systems input) Goes) (λ c. Reaches memory (IsReportOf form c) Goes) in
-        subst Shown (sym told.same) (reaches memory (IsReportOf form c) Goes answer told.report sent)
-    shown_of (Err refusal) answer end told sent =
-        let Shown : Option CampaignView → Type 0 =
-        λ x. MatchOption x (Reaches memory (IsNotBegun form systems input) Goes) (λ c. Reaches memory (IsReportOf form c) Goes) in
-        let is = subst (λ (x : Result Answer AllocError). IfOk x (Answers (IsNotBegun form systems input))) (sym told.refusal) told.is_refusal in
-        subst Shown (sym told.same) (reaches memory (IsNotBegun form systems input) Goes answer is sent)
+    module _ (memory : List ℕ) (Goes : Bool → List ℕ → Status → Type 0) where
+      pub shown_of : (r : Result CampaignView (Result Answer AllocError)) (answer : Result Answer AllocError) (end : Option CampaignView)
+          → AreTold r answer end → Goes (refuses answer) (sent_text memory answer) (sent_status answer)
+          → MatchOption end (Reaches memory (IsNotBegun form systems input) Goes) (λ c. Reaches memory (IsReportOf undrawn form c) Goes)
+      shown_of (Ok c) answer end told sent =
+          let Shown : Option CampaignView → Type 0 =
+          λ x. MatchOption x (Reaches memory (IsNotBegun form systems input) Goes) (λ c. Reaches memory (IsReportOf undrawn form c) Goes) in
+          subst Shown (sym told.same) (reaches memory (IsReportOf undrawn form c) Goes answer told.report sent)
+      shown_of (Err refusal) answer end told sent =
+          let Shown : Option CampaignView → Type 0 =
+          λ x. MatchOption x (Reaches memory (IsNotBegun form systems input) Goes) (λ c. Reaches memory (IsReportOf undrawn form c) Goes) in
+          let is = subst (λ (x : Result Answer AllocError). IfOk x (Answers (IsNotBegun form systems input))) (sym told.refusal) told.is_refusal in
+          subst Shown (sym told.same) (reaches memory (IsNotBegun form systems input) Goes answer is sent)

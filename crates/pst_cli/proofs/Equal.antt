@@ -61,13 +61,14 @@ abbrev pub same_reply : Reply → Reply → Bool
 same_reply = replies.ghosts.eq
 
 abbrev each : Each Bool enum.the_parts
-each = (λ a b. same_value a.0 b.0, (λ a b. true, (λ a b. true, (λ a b. true, tt))))
+each = (λ a b. same_value a.0 b.0, (λ a b. true, (λ a b. true, (λ a b. true, (λ a b. true, tt)))))
 
 fields : (a : Reply) → IsExactChoice enum.the_parts each (enum.as_values a)
 fields (reply.Value v) = λ y e. let p : v ≡ y.0 = (same_value-Decides v y.0).0 e in ap (λ z. (z, tt)) p
 fields reply.Misfit = λ y e. refl
 fields reply.Failed = λ y e. refl
 fields reply.NotRun = λ y e. refl
+fields reply.Unknown = λ y e. refl
 
 -- `==` compares the values of one form
 compared : (a b : Reply) → same_reply a b ≡ by false false enum.the_parts each (enum.as_values a) (enum.as_values b)

@@ -8,6 +8,7 @@ pub mod JudgedRuns
 pub mod Keeping
 pub mod KeepingOn
 pub mod Losing
+mod OneOfCalls
 pub mod OneOutput
 pub mod Paging
 pub mod Printing

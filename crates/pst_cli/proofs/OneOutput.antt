@@ -7,6 +7,7 @@ use Rattle.pst_cli.specs.Head.{refusal_line, line_end}
 use Rattle.pst_typing.specs.Loading.{IsFile, Holds, items_of, IsRefusal}
 use Rattle.pst_cli.specs.Output.{IsCheckOutput, ok_line, HoldsRuns, IsFirstRefusal, IsJudgeOutput, run_line, AreJudged, item_line, item_lines, is_explained, is_good, status_of}
 use Rattle.pst_cli.specs.Output as output
+use Rattle.pst_cli.proofs.OneOfCalls.{one_by_any}
 use Rattle.pst_cli.specs.OneOutput.{OneCheckOutput, OneJudgeOutput}
 use Rattle.pst_typing.specs.declared.loading.Refusal.{Refusal}
 use Rattle.pst_typing.specs.declared.loading.Refusal.TheVariants.{Unread, NoModel, IllTyped}
@@ -157,7 +158,7 @@ same_items k m [] (j ∷ js) ks number p q = absurd p
 same_items k m (run ∷ runs) [] ks number p q = absurd p
 same_items k m (run ∷ runs) (j ∷ js) [] number p q = absurd q
 same_items k m (run ∷ runs) (j ∷ js) (i ∷ ks) number p q =
-    let e = same_item j i (k.judgement m run j i p.0 q.0) in
+    let e = same_item j i (one_by_any k.judgement m run j i p.0 q.0) in
     let f = same_items k m runs js ks (number + 1) p.1 q.1 in (
       ap (λ t. (decimal number ++ codes " " ++ t ++ line_end) ++ item_lines (number + 1) js) e.0 ∙ ap (λ ts. item_line number i ++ ts) f.0,
       ap (λ b. b && list_all is_good js) e.1 ∙ ap (λ b. is_good i && b) f.1,

@@ -1,5 +1,5 @@
 -- Cases that were driven, and the runs of their reports.
-use Rattle.std.proofs.Common.{◌≡◌, ℕ, zero, suc, Bool, true, false, List, [], ◌∷◌, All, Option, Some, None, Result, Ok, Err, IfOk, IfSome, map, refl, sym, ap, ◌∙◌, subst}
+use Rattle.std.proofs.Common.{◌≡◌, ℕ, zero, suc, Bool, true, false, List, [], ◌∷◌, All, Option, Some, None, Result, Ok, Err, IfOk, IfSome, refl, sym, ap, ◌∙◌, subst}
 use Rattle.std.specs.Prelude.{if◌then◌else◌}
 use Rattle.std.specs.List.{AllZip}
 use Rattle.std.proofs.lemmas.List.Elements.{All-nil, All-cons}
@@ -7,8 +7,7 @@ use Rattle.pst_case.specs.declared.case.Case.{Case}
 use Rattle.pst_case.specs.declared.history.Run.{Run}
 use Rattle.pst_case.specs.Matches.{matches}
 use Rattle.pst_case.specs.OfModel.{OfModel}
-use Rattle.pst_case.specs.Times.{AreTimed, called, fit}
-use Rattle.pst_case.specs.declared.history.CallTime.{CallTime}
+use Rattle.pst_case.specs.Unknown.{times_for, times_of_calls}
 use Rattle.pst_case.specs.declared.history.History.{History}
 use Rattle.pst_cli.specs.DrivenItems.{AreDriven, IsDrivenCase, IsDrivenItem, IsRepeated, IsReported, IsTimedBy, repeated, invalid, lost, is_accepted, report_status, run_with, shown_after, shown_of}
 use Rattle.pst_cli.specs.ItemReports.{IsPrintable, IsReportOf}
@@ -29,11 +28,8 @@ if_ok_then P Q f (Ok a) h = f a h
 if_ok_then P Q f (Err e) h = tt
 
 -- the times of a history are lawful if it is timed by an order
-timed_history : (order : CallOrder) (h : History) → IsTimedBy order h → AreTimed h
-timed_history Any h timed =
-    let Fits : List (List CallTime) → Type 0 = λ times. fit (map called h.branches) times ≡ true in
-    let IsSo : Option (List (List CallTime)) → Type 0 = λ times. IfSome times Fits in
-    subst IsSo (sym timed) tt
+timed_history : (order : CallOrder) (h : History) → IsTimedBy order h → times_of_calls h ≡ h.times
+timed_history Any h timed = ap (times_for h.branches) timed ∙ sym timed
 timed_history Time h timed = timed
 
 module _ (order : CallOrder) (m : Source) (A : Answers) (F : Fails) (R : ResetFails) where

@@ -10,6 +10,7 @@ use Rattle.pst_cli.specs.CampaignEnd.{IsEarlyOutput, ended, not_begun, not_loade
 use Rattle.pst_cli.specs.Sending.{Prints}
 use Rattle.pst_cli.specs.declared.answer.OutputForm.TheVariants as form
 use Rattle.pst_cli.specs.declared.answer.Status.{Status}
+use Rattle.pst_cli.specs.declared.campaign.UndrawnTrials.TheVariants.{Missing}
 use Rattle.pst_judge.specs.declared.judgement.Verdict.{Verdict}
 use Rattle.pst_judge.specs.declared.judgement.Verdict.TheVariants as verdict
 use Rattle.pst_ledger.specs.declared.entry.Entry.{Entry}
@@ -82,7 +83,7 @@ module _ {S : Type 0} (A : S → Answers) (F : S → Fails) (R : S → ResetFail
   Give = λ s. MayGive (A s) (F s) (R s)
 
   pub whole : (input text : List ℕ) (status : Status)
-      → IsEarlyOutput form.Text ⊥ Give settings systems input text status → IsCampaignOutput Give settings systems input text status
+      → IsEarlyOutput form.Text Missing ⊥ Give settings systems input text status → IsCampaignOutput Give settings systems input text status
   whole input text status (ended c is output) =
       let all = all_given_to_the_end (λ s. Give s (plan_of is.model settings)) systems c.entries is.ended.given in
       let same = same_status c.entries (λ k e at.

@@ -10,6 +10,7 @@ use Rattle.pst_cli.specs.RunOutput.{IsDriveOutput}
 use Rattle.pst_cli.specs.declared.answer.OutputForm.{OutputForm}
 use Rattle.pst_cli.specs.declared.answer.OutputForm.TheVariants as form
 use Rattle.pst_cli.specs.declared.answer.Status.{Status}
+use Rattle.pst_cli.specs.declared.campaign.UndrawnTrials.{UndrawnTrials}
 use Rattle.pst_cli.specs.declared.drive.DriveOptions.{DriveOptions}
 use Rattle.pst_cli.specs.declared.judge.JudgeOptions.{JudgeOptions}
 use Rattle.pst_cli.specs.declared.judge.Judging.{Judging}
@@ -78,5 +79,6 @@ IsDriveAnswer options = IsDriveOutput options.form options.order options.repeats
 -- ---- `pst campaign`
 
 -- the report, or the object of the report
-abbrev pub IsCampaignAnswer : {S : Type 0} → OutputForm → (may_end : Type 0) → Gives S → Settings → (systems : List S) → OutputOf
-IsCampaignAnswer form may_end may_give settings systems = IsEarlyOutput form may_end may_give settings systems
+abbrev pub IsCampaignAnswer : {S : Type 0} → OutputForm → UndrawnTrials → (may_end : Type 0) → Gives S → Settings → (systems : List S)
+    → OutputOf
+IsCampaignAnswer form undrawn may_end may_give settings systems = IsEarlyOutput form undrawn may_end may_give settings systems

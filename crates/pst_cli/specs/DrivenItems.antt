@@ -2,7 +2,7 @@
 use Rattle.std.specs.Prelude.{◌≡◌, ◌≢◌, ℕ, zero, suc, ◌+◌, Bool, true, false, if◌then◌else◌, List, [], ◌∷◌, length, Option, Some, None}
 use Rattle.pst_case.specs.Matches.{matches}
 use Rattle.pst_case.specs.OfModel.{OfModel}
-use Rattle.pst_case.specs.Times.{AreTimed}
+use Rattle.pst_case.specs.Unknown.{times_of_calls}
 use Rattle.pst_case.specs.declared.case.Case.{Case}
 use Rattle.pst_case.specs.declared.history.History.{History}
 use Rattle.pst_case.specs.declared.history.Run.{Run}
@@ -32,7 +32,7 @@ run_with v h = record { shaped = v; history = Some h }
 -- in the order of times the calls have times, and in any order none are recorded
 abbrev pub IsTimedBy : CallOrder → History → Type 0
 IsTimedBy Any h = h.times ≡ None
-IsTimedBy Time h = AreTimed h
+IsTimedBy Time h = times_of_calls h ≡ h.times
 
 -- the reason why a case is not valid
 abbrev pub IsInvalid : Source → Case → Judged → Type 0

@@ -1,6 +1,7 @@
 -- what the public contracts cite
 pub mod Absent
 pub mod Answering
+pub mod CampaignCalls
 pub mod CampaignEnd
 pub mod CampaignFailures
 pub mod CampaignOutput

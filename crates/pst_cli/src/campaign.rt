@@ -4,7 +4,7 @@ ghost use Rattle.std.specs.Arc.{arc_value};
 ghost use Rattle.pst_campaign.specs.Entries.{MayGive};
 ghost use Rattle.pst_cli.specs.Answering.{Delivers, Reaches, Stands, memory_of};
 ghost use Rattle.pst_cli.specs.Answers.{Answers, IsRefusedCampaign};
-ghost use Rattle.pst_cli.specs.CampaignEnd.{IsEndFor, IsEndOf, IsNotBegun, IsReportObject, IsReportOf};
+ghost use Rattle.pst_cli.specs.CampaignEnd.{IsEndFor, IsEndOf, IsNotBegun, IsReportObject, IsReportOf, status_by};
 ghost use Rattle.pst_cli.specs.CampaignOutput as spec;
 ghost use Rattle.pst_cli.specs.CampaignOutput.{IsCampaignOutput, plan_of};
 ghost use Rattle.pst_cli.specs.Commands.{IsCampaignAnswer};
@@ -20,19 +20,37 @@ use crate::attendant::Attendant;
 use crate::campaign_end::CampaignEnd;
 use crate::judge::refused_model_answer;
 use pst_campaign::{CampaignFault, NeverStops, StopCondition, Watch, campaign_until};
+use pst_ledger::Closed;
 use pst_model::Typed;
 use pst_rejudge::json_object_line;
 use pst_report::{
     CampaignStatus, add_lost_trials_and_first_failure, campaign_report_fields_before_losses,
-    report, status_of_stoppable_campaign,
+    report, status_of_made_trials, status_of_stoppable_campaign,
 };
 use pst_sexpr::{Out, Sink};
 use pst_system::{BoxedSystem, System};
-use pst_trial::{Plan, Settings};
+use pst_trial::{Plan, Record, Settings};
 use pst_typing::{ModelFile, load};
 use std::alloc::{AllocError, Global};
 use std::sync::{Arc, Wait};
 use std::thread::Threads;
+
+/// What the numbers that were not drawn mean for the status of a campaign that ended early.
+#[derive(Clone, Copy, Debug, PartialEq, Eq, Drop)]
+pub enum UndrawnTrials {
+    /// They are missing: the status is `Lost` unless a trial did not pass.
+    Missing,
+    /// They are left out, since the campaign ended when its caller wished: the status is that of the trials that were made, or
+    /// `Lost` if none was.
+    LeftOut,
+}
+
+/// How the report of a campaign is written, and its status.
+#[derive(Clone, Copy, Debug, PartialEq, Eq, Drop)]
+pub struct ReportOptions {
+    pub form: OutputForm,
+    pub undrawn: UndrawnTrials,
+}
 
 /// `refused campaign KIND`.
 fn refused_campaign_line(alloc: Global, fault: CampaignFault) -> Result<String, AllocError>
@@ -71,6 +89,16 @@ fn exit_status_after_campaign(ended: CampaignStatus) -> Status
     }
 }
 
+/// How the trials of a campaign ended.
+fn status_of_trials(undrawn: UndrawnTrials, closed: &Closed<Record>) -> CampaignStatus
+    ensures { result ≡ status_by undrawn closed.now }
+{
+    match undrawn {
+        UndrawnTrials::Missing => status_of_stoppable_campaign(closed),
+        UndrawnTrials::LeftOut => status_of_made_trials(closed),
+    }
+}
+
 /// The report of a campaign.
 fn campaign_lines(alloc: Global, end: &CampaignEnd) -> Result<Vec<u8>, AllocError>
     ensures { IfOk result (λ text. text.items ≡ report_text end.now.plan end.now.entries) }
@@ -83,11 +111,15 @@ fn campaign_lines(alloc: Global, end: &CampaignEnd) -> Result<Vec<u8>, AllocErro
 }
 
 /// The object of the report of a campaign, on its line.
-fn campaign_object(alloc: Global, end: &CampaignEnd) -> Result<Vec<u8>, AllocError>
-    ensures { IfOk result (λ text. IsReportObject end.now text.items) }
+fn campaign_object(
+    alloc: Global,
+    undrawn: UndrawnTrials,
+    end: &CampaignEnd,
+) -> Result<Vec<u8>, AllocError>
+    ensures { IfOk result (λ text. IsReportObject undrawn end.now text.items) }
 {
     let (plan, closed) = (end.plan(), end.closed());
-    let status = status_of_stoppable_campaign(closed);
+    let status = status_of_trials(undrawn, closed);
     let mut fields = campaign_report_fields_before_losses(alloc, plan, closed, status)?;
     let mut more = Vec::new(alloc);
     add_lost_trials_and_first_failure(alloc, &mut more, plan, end.entries())?;
@@ -96,16 +128,21 @@ fn campaign_object(alloc: Global, end: &CampaignEnd) -> Result<Vec<u8>, AllocErr
 }
 
 /// The report of a campaign in a form.
-fn report_answer(alloc: Global, form: OutputForm, end: &CampaignEnd) -> Result<Answer, AllocError>
-    ensures { IfOk result (Answers (IsReportOf form end.now)) }
+fn report_answer(
+    alloc: Global,
+    options: ReportOptions,
+    end: &CampaignEnd,
+) -> Result<Answer, AllocError>
+    ensures { IfOk result (Answers (IsReportOf options.undrawn options.form end.now)) }
 {
-    let text = match form {
+    let undrawn = options.undrawn;
+    let text = match options.form {
         OutputForm::Text => campaign_lines(alloc, end)?,
-        OutputForm::Json => campaign_object(alloc, end)?,
+        OutputForm::Json => campaign_object(alloc, undrawn, end)?,
     };
     Ok(Answer {
         text,
-        status: exit_status_after_campaign(status_of_stoppable_campaign(end.closed())),
+        status: exit_status_after_campaign(status_of_trials(undrawn, end.closed())),
         refuses: false,
     })
 }
@@ -184,15 +221,15 @@ fn run_trials_of_input<K: StopCondition + Sync, R: Threads + Wait + Sync>(
 /// The answer to what came of a campaign, with its end if a trial began.
 fn answer_and_end(
     alloc: Global,
-    form: OutputForm,
+    options: ReportOptions,
     ended: Result<CampaignEnd, Result<Answer, AllocError>>,
 ) -> (Result<Answer, AllocError>, Option<CampaignEnd>)
     ensures end { MatchResult ended (λ end. result.1 ≡ Some end) (λ _. result.1 ≡ None) }
-    ensures report { IfOk ended (λ end. IfOk result.0 (Answers (IsReportOf form end))) }
+    ensures report { IfOk ended (λ end. IfOk result.0 (Answers (IsReportOf options.undrawn options.form end))) }
     ensures refusal { IfErr ended (λ refusal. result.0 ≡ refusal) }
 {
     match ended {
-        Ok(end) => (report_answer(alloc, form, &end), Some(end)),
+        Ok(end) => (report_answer(alloc, options, &end), Some(end)),
         Err(refusal) => (refusal, None),
     }
 }
@@ -223,15 +260,26 @@ pub fn campaign_text<W: Sink, K: Watch + Sync, R: Threads + Wait + Sync>(
         (W.taken sink.old) (W.taken sink.new) (W.broken sink.new) result }
 {
     let watch = NeverStops { watch };
-    let form = OutputForm::Text;
-    let ended = run_trials_of_input(rt, alloc, input, settings, systems, &watch, form);
-    let (answer, _end) = answer_and_end(alloc, form, ended);
+    let options = ReportOptions {
+        form: OutputForm::Text,
+        undrawn: UndrawnTrials::Missing,
+    };
+    let ended = run_trials_of_input(
+        rt,
+        alloc,
+        input,
+        settings,
+        systems,
+        &watch,
+        OutputForm::Text,
+    );
+    let (answer, _end) = answer_and_end(alloc, options, ended);
     send(&answer, MEMORY_LINE, sink)
 }
 
 /// Does what [`campaign_text`] does until `watch` says that the campaign is over, and returns beside the status what the
 /// trials came to, if one could begin: what is printed then is its report. If the campaign ends early, the status is
-/// `Failed` if a trial did not pass and none is lost, and else `Lost`. As JSON, writes one object: the report, or the
+/// `Failed` if a trial did not pass and none is lost, and else as `options.undrawn` says. As JSON, writes one object: the report, or the
 /// refusal of the input, or that an allocation failed, also if the campaign is refused for the number of its systems.
 pub fn report_campaign<
     F: Sink,
@@ -246,26 +294,27 @@ pub fn report_campaign<
     settings: Settings,
     systems: Vec<BoxedSystem>,
     watch: &K,
-    form: OutputForm,
+    options: ReportOptions,
     attendant: &mut A,
     to: &mut Destinations<F, W>,
 ) -> (Status, Option<CampaignEnd>)
     requires ranges { AreInRange settings }
     requires stands { Stands F.broken W.broken to.old }
-    ensures prints { Reaches (memory_of form)
-        (IsCampaignAnswer form (K.may_end watch.now) (λ s. MayGive ((System-box s).answers s.value)
+    ensures prints { Reaches (memory_of options.form)
+        (IsCampaignAnswer options.form options.undrawn (K.may_end watch.now) (λ s. MayGive ((System-box s).answers s.value)
         ((System-box s).fails s.value) ((System-box s).reset_fails s.value)) settings systems.items input.now)
         (Delivers F.taken F.broken W.taken W.broken to.old to.new result.0) }
     ensures same { IfSome result.1 (IsEndOf (K.may_end watch.now) (λ s. MayGive ((System-box s).answers s.value)
         ((System-box s).fails s.value) ((System-box s).reset_fails s.value)) settings systems.items input.now) }
     ensures shown { MatchOption result.1
-        (Reaches (memory_of form) (IsNotBegun form systems.items input.now)
+        (Reaches (memory_of options.form) (IsNotBegun options.form systems.items input.now)
         (Delivers F.taken F.broken W.taken W.broken to.old to.new result.0))
-        (λ end. Reaches (memory_of form) (IsReportOf form end)
+        (λ end. Reaches (memory_of options.form) (IsReportOf options.undrawn options.form end)
         (Delivers F.taken F.broken W.taken W.broken to.old to.new result.0)) }
 {
+    let form = options.form;
     let ended = run_trials_of_input(rt, alloc, input, settings, systems, watch, form);
-    let (answer, end) = answer_and_end(alloc, form, ended);
+    let (answer, end) = answer_and_end(alloc, options, ended);
     attendant.before_output();
     (deliver(&answer, memory_text(form), to), end)
 }

@@ -1,13 +1,15 @@
 //! A campaign that has ended: its plan and its trials, and what they hold beside the report.
 ghost use Rattle.std.specs.Prelude.{◌≡◌, IfOk, IfSome, length};
 ghost use Rattle.std.specs.Arc.{arc_value};
-ghost use Rattle.std.specs.List.{count_by};
+ghost use Rattle.std.specs.List.{count_by, list_any};
 ghost use Rattle.std.specs.Option.{is_some};
+ghost use Rattle.pst_cli.specs.CampaignCalls.{has_call_in_entry};
 ghost use Rattle.pst_cli.specs.CampaignFailures.{AreLosses, IsFailingRun, IsSmallestIfAny, number_in};
 ghost use Rattle.pst_cli.specs.CampaignView.{IsComplete};
 ghost use Rattle.pst_report.specs.Distinct.{AreDistinctFailures};
 ghost use Rattle.pst_report.specs.Least.{failure_in, least_fault, of_record};
 
+use crate::campaign_calls::has_call_in_entries;
 use crate::failing_run::{TrialFailure, count_failed_trials};
 use crate::losses::{LostTrials, lost_trials_by_cause};
 use crate::smallest::smallest_failure_of;
@@ -85,6 +87,13 @@ impl CampaignEnd {
         ensures { result ≡ count_by (λ e. is_some (of_record failure_in e)) self.now.entries }
     {
         count_failed_trials(self.entries())
+    }
+
+    /// Whether a call was made in a run of its trials. If not, the campaign has tested nothing.
+    pub fn has_call(&self) -> bool
+        ensures { result ≡ list_any has_call_in_entry self.now.entries }
+    {
+        has_call_in_entries(self.entries())
     }
 
     /// The failure whose shrunk case has the fewest commands; of several the one with the lowest number.

@@ -31,7 +31,7 @@ pub enum ItemReport {
 }
 
 impl ItemReport {
-    /// `Accepted` if the run is explained, `Lost` if there is none for a valid case, else `Failed`.
+    /// Returns `Accepted` if the run is explained, `Lost` if the item has a valid case without a run, else `Failed`.
     pub fn status(&self) -> Status
         ensures { result ≡ report_status self.now }
     {
@@ -252,7 +252,7 @@ fn drive_valid_case<R: Threads + Wait>(
     }
 }
 
-/// What became of an item whose case is not valid. `AllocError` if that could not be told.
+/// Returns the item of a case that is not valid, with the reason. `AllocError` if memory is refused.
 fn invalid_item(why: Why) -> Result<DrivenItem, AllocError>
     ensures reason { OnOk result (why ≡ reasons.NoMemory → ⊥) }
     ensures item { IfOk result (λ item. item ≡ alone (became.Judged None (kind.Invalid why))) }

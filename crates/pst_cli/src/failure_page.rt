@@ -77,7 +77,7 @@ fn smallest_failure_alone<'a>(
 }
 
 /// The failures of a campaign: the smallest, and then of those that were shrunk to the same run the first, at most 100.
-fn failures_with_distinct_runs<'a>(
+pub(crate) fn failures_with_distinct_runs<'a>(
     alloc: Global,
     plan: &Plan,
     entries: &'a [Entry<Record>],

@@ -2,16 +2,17 @@
 //! may share models and judgements.
 //!
 //! The functions on threads do nothing; their contracts say that the types are `Sync`.
-ghost use Rattle.std.specs.Prelude.{◌≡◌, IfOk, MatchResult, true, IfSome};
+ghost use Rattle.std.specs.Prelude.{◌≡◌, ℕ, Bool, List, IfOk, MatchResult, true, IfSome};
 ghost use Rattle.pst_typing.specs.Loading.{Holds, IsRefusal};
 ghost use Rattle.pst_cli.specs.Answers.{Answers};
 ghost use Rattle.pst_cli.specs.Output.{HoldsRuns, IsFirstRefusal};
 ghost use Rattle.pst_cli.specs.RunOutput.{IsRefusedIn};
-ghost use Rattle.pst_cli.specs.Kept.{HoldsJudged, keeps_all};
+ghost use Rattle.pst_cli.specs.Kept.{HoldsAnswered, HoldsJudged, keeps_all};
 ghost use Rattle.pst_rejudge.specs.Parts.{joined};
 ghost use Rattle.std.specs.Thread.{IsSync};
 ghost use Rattle.pst_compile.specs.contracts.compiled.Compiled.{the_row as compiled_row};
 ghost use Rattle.pst_judge.specs.contracts.judgement.Judged.{the_row as judged_row};
+ghost use Rattle.pst_judge.specs.declared.by_order.CallOrder.{CallOrder};
 
 use crate::answer::{Answer, OutputForm};
 use crate::judge::{read_runs_of_trees, refused_item_answer, refused_model_answer};
@@ -21,8 +22,8 @@ use pst_explain::tree_places_in_input;
 use pst_judge::{CallOrder, Judge, Judged};
 use pst_model::{Expr, Item, Typed};
 use pst_rejudge::{
-    JudgedParts, ProgressCounter, read_and_judge_in_parts, rejudge_with_progress,
-    split_before_second_bracket_line,
+    AnsweredParts, ItemResult, ProgressCounter, first_refused_item, judgements_of_items,
+    read_and_judge_in_parts, rejudge_with_progress, split_before_second_bracket_line,
 };
 use pst_sexpr::{MAX_BYTES, Tree};
 use pst_typing::{ModelFile, Refusal, load, trees_after_model};
@@ -115,10 +116,21 @@ pub struct JudgedFile {
     pub judged: Vec<Judged>,
 }
 
-/// Reads and judges parts of the input by an order, on several threads at once. Keeps the judgements of each part, and its runs as
+/// A model, the answers to the items after it, and the runs that are kept of them.
+#[derive(Drop)]
+struct AnsweredFile {
+    /// The model.
+    compiled: Compiled,
+    /// The items that are not refused, in the parts in which they were read, if they are kept.
+    runs: Vec<Vec<Run>>,
+    /// The judgement on each item, or why it is refused, in the order of the items.
+    answers: Vec<ItemResult>,
+}
+
+/// Reads and judges parts of the input by an order, on several threads at once. Keeps the answers of each part, and its runs as
 /// `keep` says. Returns `None`, which says nothing about the input, if the input is over `MAX_BYTES`, if it does not
 /// begin with a well-typed model alone before the next line that begins with a bracket, or if some part of the rest
-/// cannot be read by itself.
+/// is no text of trees by itself.
 fn read_and_judge_in_parallel_if_possible<R: Threads + Sync>(
     rt: &R,
     alloc: Global,
@@ -126,9 +138,9 @@ fn read_and_judge_in_parallel_if_possible<R: Threads + Sync>(
     order: CallOrder,
     keep: Keep,
     steps: &ProgressCounter,
-) -> Result<Option<JudgedFile>, AllocError>
+) -> Result<Option<AnsweredFile>, AllocError>
     ensures { IfOk result (λ read. IfSome read (λ file.
-        HoldsJudged order (keeps_all keep) input.now file.compiled (joined file.runs.items) file.judged.items)) }
+        HoldsAnswered order (keeps_all keep) input.now file.compiled (joined file.runs.items) file.answers.items)) }
 {
     if input.len() > MAX_BYTES {
         return Ok(None);
@@ -147,13 +159,40 @@ fn read_and_judge_in_parallel_if_possible<R: Threads + Sync>(
     let callbacks = &compiled;
     let judge = Judge { callbacks, order };
     match read_and_judge_in_parts(rt, &judge, alloc, compiled.typed(), rest, keeps, steps)? {
-        Some(JudgedParts { runs, judged }) => Ok(Some(JudgedFile {
+        Some(AnsweredParts { runs, answers }) => Ok(Some(AnsweredFile {
             compiled,
             runs,
-            judged,
+            answers,
         })),
         None => Ok(None),
     }
+}
+
+/// The judgements on the items, or the refusal of the first refused item.
+fn judged_file_unless_refused(
+    alloc: Global,
+    file: AnsweredFile,
+) -> Result<Result<JudgedFile, Answer>, AllocError>
+    ensures { IfOk result (λ read. (order : CallOrder) (all : Bool) (input : List ℕ)
+        → HoldsAnswered order all input file.compiled (joined file.runs.items) file.answers.items
+        → MatchResult read
+        (λ judged. HoldsJudged order all input judged.compiled (joined judged.runs.items) judged.judged.items)
+        (Answers (IsFirstRefusal input))) }
+{
+    let AnsweredFile {
+        compiled,
+        runs,
+        answers,
+    } = file;
+    if let Some(fault) = first_refused_item(answers.as_slice()) {
+        return Ok(Err(refused_item_answer(alloc, OutputForm::Text, &fault)?));
+    }
+    let judged = judgements_of_items(alloc, answers)?;
+    Ok(Ok(JudgedFile {
+        compiled,
+        runs,
+        judged,
+    }))
 }
 
 /// Runs as one part.
@@ -221,7 +260,7 @@ pub fn read_and_judge_file<R: Threads + Sync>(
         (Answers (IsFirstRefusal input.now))) }
 {
     match read_and_judge_in_parallel_if_possible(rt, alloc, input, order, keep, steps)? {
-        Some(file) => Ok(Ok(file)),
+        Some(file) => judged_file_unless_refused(alloc, file),
         None => read_all_runs_then_judge_in_parallel(rt, alloc, input, order, steps),
     }
 }

@@ -18,11 +18,17 @@ Spells t line v = (j : Json) × (document line ≡ Some j) × HasUniqueKeys j ×
 abbrev pub says_failed : List ℕ → Bool
 says_failed line = starts_with nat_eq line (codes "failed")
 
+-- the line says that nobody knows whether the call took effect
+abbrev pub says_unknown : List ℕ → Bool
+says_unknown line = starts_with nat_eq line (codes "unknown")
+
 -- what a line answers to a call whose result is wanted to have the type
 abbrev pub IsAnswer : Option Ty → List ℕ → ClientAnswer → Type 0
 IsAnswer t line (answer.Value v) = Spells t line v
 IsAnswer t line answer.Failed = says_failed line ≡ true
-IsAnswer t line answer.NoValue = (says_failed line ≡ false) × ((v : Value) → ¬ Spells t line v)
+IsAnswer t line answer.Unknown = (says_failed line ≡ false) × (says_unknown line ≡ true)
+IsAnswer t line answer.NoValue =
+    (says_failed line ≡ false) × (says_unknown line ≡ false) × ((v : Value) → ¬ Spells t line v)
 
 -- a line that may be given spells the value, at the result type of the operation that is called, if there is one
 abbrev pub Answered : (List ℕ → Type 0) → List Ty → RealCall → Value → Type 0

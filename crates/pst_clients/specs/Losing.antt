@@ -2,14 +2,14 @@
 -- that such a source may fail, `may_run_ahead` that it may have more than the line that is wanted of it, and `may_break`
 -- that the way to a client of its kind may be closed.
 use Rattle.std.specs.Prelude.{◌≡◌, ℕ, ◌≤◌, Bool, true, false, List, Option, IsUtf8}
-use Rattle.pst_clients.specs.Answering.{Spells, says_failed}
+use Rattle.pst_clients.specs.Answering.{Spells, says_failed, says_unknown}
 use Rattle.pst_clients.specs.Lines.{has_mark}
 use Rattle.pst_clients.specs.declared.states.ClientState.{ClientState}
 use Rattle.pst_clients.specs.declared.states.ClientState.TheVariants as state
 use Rattle.pst_clients.specs.declared.states.LostAnswer.{LostAnswer}
 use Rattle.pst_clients.specs.declared.states.LostAnswer.TheVariants as lost
 use Rattle.pst_system.specs.declared.system.CallFault.{CallFault}
-use Rattle.pst_system.specs.declared.system.CallFault.TheVariants.{Refused, NoMemory}
+use Rattle.pst_system.specs.declared.system.CallFault.TheVariants.{Refused, NoMemory, OutcomeUnknown}
 use Rattle.pst_value.specs.declared.ty.Ty.{Ty}
 use Rattle.pst_value.specs.declared.value.Value.{Value}
 
@@ -61,6 +61,8 @@ pub data IsCallLoss (may_give : List ℕ → Type 0) (may_fail may_run_ahead may
   unanswered : IsLineLoss may_give may_fail may_run_ahead may_break f → IsCallLoss may_give may_fail may_run_ahead may_break clients t f
   failed : f ≡ Refused → ((line : List ℕ) × may_give line × (says_failed line ≡ true))
       → IsCallLoss may_give may_fail may_run_ahead may_break clients t f
+  unknown : f ≡ OutcomeUnknown → ((line : List ℕ) × may_give line × (says_unknown line ≡ true))
+      → IsCallLoss may_give may_fail may_run_ahead may_break clients t f
   no_value : f ≡ Refused → ((line : List ℕ) × may_give line × ((v : Value) → ¬ Spells t line v))
       → IsCallLoss may_give may_fail may_run_ahead may_break clients t f
 
@@ -68,5 +70,7 @@ pub data IsCallLoss (may_give : List ℕ → Type 0) (may_fail may_run_ahead may
 pub data IsResetLoss (may_give : List ℕ → Type 0) (may_fail may_run_ahead may_break : Type 0) (f : CallFault) : Type 0 where
   unanswered : IsLineLoss may_give may_fail may_run_ahead may_break f → IsResetLoss may_give may_fail may_run_ahead may_break f
   failed : f ≡ Refused → ((line : List ℕ) × may_give line × (says_failed line ≡ true))
+      → IsResetLoss may_give may_fail may_run_ahead may_break f
+  unknown : f ≡ Refused → ((line : List ℕ) × may_give line × (says_unknown line ≡ true))
       → IsResetLoss may_give may_fail may_run_ahead may_break f
   extra_line : f ≡ Refused → ∥ IsExtra may_give may_run_ahead ∥₁ → IsResetLoss may_give may_fail may_run_ahead may_break f

@@ -222,6 +222,10 @@ impl<R: Wait + Files, I: LineSource + Drop, O: LineSink + Drop> Clients<R, I, O>
                 self.note_badly_answered_line(branch, NoteKind::Failed, line, text, "");
                 Err(CallFault::Refused)
             }
+            Ok(ClientAnswer::Unknown) => {
+                self.note_badly_answered_line(branch, NoteKind::Unknown, line, text, "");
+                Err(CallFault::OutcomeUnknown)
+            }
             Ok(ClientAnswer::NoValue) => {
                 let hint = hint_on_answer_without_value(text, ty);
                 self.note_badly_answered_line(branch, NoteKind::NoValue, line, text, hint);

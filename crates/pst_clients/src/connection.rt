@@ -145,6 +145,7 @@ impl<I: LineSource, O: LineSink> Connection<I, O> {
                     self.note_gone(ClientState::Closed);
                     Err(lost)
                 }
+                CallFault::OutcomeUnknown => unreachable!(),
             },
         }
     }

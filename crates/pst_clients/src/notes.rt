@@ -17,6 +17,7 @@ pub(crate) enum NoteKind {
     NotAsked,
     NotAnswered,
     Failed,
+    Unknown,
     NoValue,
     Misfit,
     MoreLines,
@@ -24,11 +25,12 @@ pub(crate) enum NoteKind {
 }
 
 /// All kinds, in the order of their notes. Stray lines are kept with [`NoteKind::MoreLines`].
-const KINDS: [NoteKind; 6] = [
+const KINDS: [NoteKind; 7] = [
     NoteKind::MoreLines,
     NoteKind::NotAsked,
     NoteKind::NotAnswered,
     NoteKind::Failed,
+    NoteKind::Unknown,
     NoteKind::NoValue,
     NoteKind::Misfit,
 ];
@@ -39,7 +41,7 @@ impl NoteKind {
         match self {
             NoteKind::NotAsked => "was not asked:",
             NoteKind::NotAnswered => "was not answered:",
-            NoteKind::Failed => "was answered with",
+            NoteKind::Failed | NoteKind::Unknown => "was answered with",
             NoteKind::NoValue => "was answered with something that is not a value:",
             NoteKind::Misfit => "was answered with another type:",
             NoteKind::MoreLines => "was answered with more than one line:",
@@ -93,6 +95,7 @@ pub struct Notes {
     not_asked: KeptNotes,
     not_answered: KeptNotes,
     failed: KeptNotes,
+    unknown: KeptNotes,
     no_value: KeptNotes,
     misfit: KeptNotes,
     lines_too_many: KeptNotes,
@@ -200,6 +203,7 @@ impl Notes {
             not_asked: KeptNotes::new(alloc)?,
             not_answered: KeptNotes::new(alloc)?,
             failed: KeptNotes::new(alloc)?,
+            unknown: KeptNotes::new(alloc)?,
             no_value: KeptNotes::new(alloc)?,
             misfit: KeptNotes::new(alloc)?,
             lines_too_many: KeptNotes::new(alloc)?,
@@ -233,6 +237,7 @@ impl Notes {
             NoteKind::NotAsked => &self.not_asked,
             NoteKind::NotAnswered => &self.not_answered,
             NoteKind::Failed => &self.failed,
+            NoteKind::Unknown => &self.unknown,
             NoteKind::NoValue => &self.no_value,
             NoteKind::Misfit => &self.misfit,
             NoteKind::MoreLines | NoteKind::Stray => &self.lines_too_many,

@@ -35,6 +35,8 @@ pub enum ClientAnswer {
     Value(Value),
     /// The client says that the call failed.
     Failed,
+    /// The client does not know whether the call took effect.
+    Unknown,
     /// The line is no JSON, or its JSON is no value.
     NoValue,
 }
@@ -49,6 +51,9 @@ pub fn client_answer_of_line(
 {
     if line.as_bytes().starts_with(b"failed") {
         return Ok(ClientAnswer::Failed);
+    }
+    if line.as_bytes().starts_with(b"unknown") {
+        return Ok(ClientAnswer::Unknown);
     }
     let mut scratch = Scratch::new(alloc);
     match Json::parse_strict(alloc, line, &mut scratch) {

@@ -256,6 +256,10 @@ impl<R: Wait + Files, I: LineSource + Drop, O: LineSink + Drop> Clients<R, I, O>
             self.note_badly_answered_line(branch, NoteKind::Failed, line, answer.as_str(), "");
             return Err(CallFault::Refused);
         }
+        if answer.as_bytes().starts_with(b"unknown") {
+            self.note_badly_answered_line(branch, NoteKind::Unknown, line, answer.as_str(), "");
+            return Err(CallFault::Refused);
+        }
         self.finish_reset_with_answer(branch, answer)
     }
 

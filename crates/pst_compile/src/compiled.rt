@@ -8,7 +8,7 @@ ghost use Rattle.pst_compile.specs.Functions.{listing_of};
 
 use crate::functions::model_code;
 use crate::names::count_functions;
-use pst_eval::Callbacks;
+use pst_eval::{Callbacks, does_next_name_result};
 use pst_machine::{Code, Outcome};
 use pst_model::Typed;
 use pst_value::{Fault, Items, Value};
@@ -124,6 +124,10 @@ impl Callbacks for Compiled {
 
     fn well_typed(&self) -> Option<&Typed> {
         Some(&self.typed)
+    }
+
+    fn next_names_result(&self, op: u32) -> bool {
+        does_next_name_result(self.typed.source(), op)
     }
 
     fn init(&self, alloc: Global) -> Answer {

@@ -4,9 +4,9 @@ use Rattle.pst_case.specs.declared.case.Case.{Case}
 use Rattle.pst_case.specs.declared.case.Command.{Command}
 use Rattle.pst_case.specs.declared.history.History.{History}
 use Rattle.pst_case.specs.declared.history.Reply.{Reply}
-use Rattle.pst_case.specs.declared.history.Reply.TheVariants.{Value as Answered, Misfit, Failed, NotRun}
-use Rattle.pst_driver.proofs.Real.{Wider, reply_wider}
-use Rattle.pst_driver.specs.Driven.{PartIsDriven, BranchesAreDriven, IsDriven, IsDriveFault, none_run}
+use Rattle.pst_case.specs.declared.history.Reply.TheVariants.{Value as Answered, Misfit, Failed, NotRun, Unknown}
+use Rattle.pst_driver.proofs.Real.{Wider, reply_wider, late_reply_wider, if_wider, unless_wider}
+use Rattle.pst_driver.specs.Driven.{PartIsDriven, LateIsDriven, BranchesAreDriven, IsDriven, IsDriveFault, none_run, goes_on}
 use Rattle.pst_driver.specs.declared.driving.DriveFault.{DriveFault}
 use Rattle.pst_driver.specs.declared.driving.DriveFault.TheVariants.{ResetFailed, NoThread, NoMemory}
 use Rattle.pst_model.specs.declared.model.Source.{Source}
@@ -22,6 +22,13 @@ module _ (m : Source) (A A' : Answers) (F F' : Fails) (wide : Wider A A' F F') w
   part_wider results (c ∷ cs) (Misfit ∷ rs) h = (reply_wider m A A' F F' wide results c Misfit h.0, h.1)
   part_wider results (c ∷ cs) (Failed ∷ rs) h = (reply_wider m A A' F F' wide results c Failed h.0, h.1)
   part_wider results (c ∷ cs) (NotRun ∷ rs) h = absurd h.0.reply
+  part_wider results (c ∷ cs) (Unknown ∷ rs) h = (reply_wider m A A' F F' wide results c Unknown h.0, h.1)
+
+  late_wider : (results : List (Option Value)) (cs : List Command) (rs : List Reply) → LateIsDriven m A F results cs rs → LateIsDriven m A' F' results cs rs
+  late_wider results [] rs h = h
+  late_wider results (c ∷ cs) [] h = h
+  late_wider results (c ∷ cs) (r ∷ rs) h =
+      (late_reply_wider m A A' F F' wide results c r h.0, if_wider _ (goes_on r) (late_wider results cs rs) h.1)
 
   branches_wider : (results : List (Option Value)) (bs : List (List Command)) (hs : List (List Reply)) → BranchesAreDriven m A F results bs hs → BranchesAreDriven m A' F' results bs hs
   branches_wider results [] hs h = h
@@ -33,16 +40,17 @@ module _ (m : Source) (A A' : Answers) (F F' : Fails) (wide : Wider A A' F F') w
   branches_either true results bs hs h = branches_wider results bs hs h
   branches_either false results bs hs h = h
 
-  suffix_either : (all : Bool) (results : List (Option Value)) (cs : List Command) (rs : List Reply)
-      → MatchBool all (PartIsDriven m A F results cs rs) (rs ≡ none_run cs) → MatchBool all (PartIsDriven m A' F' results cs rs) (rs ≡ none_run cs)
-  suffix_either true results cs rs h = part_wider results cs rs h
-  suffix_either false results cs rs h = h
+  suffix_either : (all failed : Bool) (results : List (Option Value)) (cs : List Command) (rs : List Reply)
+      → MatchBool all (PartIsDriven m A F results cs rs) (MatchBool failed (rs ≡ none_run cs) (LateIsDriven m A F results cs rs))
+      → MatchBool all (PartIsDriven m A' F' results cs rs) (MatchBool failed (rs ≡ none_run cs) (LateIsDriven m A' F' results cs rs))
+  suffix_either true failed results cs rs h = part_wider results cs rs h
+  suffix_either false failed results cs rs h = unless_wider _ failed (late_wider results cs rs) h
 
   pub driven_wider : (c : Case) (h : History) → IsDriven m A F c h → IsDriven m A' F' c h
   driven_wider c h d = record {
     prefix = part_wider _ c.prefix h.prefix d.prefix;
     branches = branches_either _ _ c.branches h.branches d.branches;
-    suffix = suffix_either _ _ c.suffix h.suffix d.suffix;
+    suffix = suffix_either _ _ _ c.suffix h.suffix d.suffix;
   }
 
 -- why a case could not be driven, by a reset that may fail in as many ways

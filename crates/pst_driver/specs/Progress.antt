@@ -1,12 +1,13 @@
 -- Replies by the results that are known when each call is made, which the driver goes by.
-use Rattle.std.specs.Prelude.{◌≡◌, ◌<◌, ◌++◌, ⊤, Bool, List, [], ◌∷◌, map, length, Option, Some, None}
-use Rattle.std.specs.List.{list_all}
+use Rattle.std.specs.Prelude.{◌≡◌, ◌<◌, ◌++◌, ⊤, Bool, List, [], ◌∷◌, map, length, Option, Some, None, MatchBool}
+use Rattle.std.specs.List.{list_all, list_any}
+use Rattle.pst_case.specs.Recorded.{result_of}
 use Rattle.pst_case.specs.Shape.{joined, is_known}
 use Rattle.pst_case.specs.declared.case.Command.{Command}
 use Rattle.pst_case.specs.declared.history.History.{History}
 use Rattle.pst_case.specs.declared.history.Reply.{Reply}
-use Rattle.pst_case.specs.declared.history.Reply.TheVariants.{Value as Answered, Misfit, Failed, NotRun}
-use Rattle.pst_driver.specs.Driven.{IsRealReply, none_run}
+use Rattle.pst_case.specs.declared.history.Reply.TheVariants.{Value as Answered, Misfit, Failed, NotRun, Unknown}
+use Rattle.pst_driver.specs.Driven.{IsRealReply, IsLateReply, none_run, all_answers, is_failure, goes_on}
 use Rattle.pst_driver.specs.declared.driving.DriveFault.{DriveFault}
 use Rattle.pst_driver.specs.declared.driving.DriveFault.TheVariants.{ResetFailed, NoThread, NoMemory}
 use Rattle.pst_model.specs.Parts.{operation_of}
@@ -36,6 +37,21 @@ module _ (m : Source) (answers : Answers) (fails : Fails) where
   PartRuns known (c ∷ cs) (Misfit ∷ rs) = IsRealReply m answers fails known c Misfit × (rs ≡ none_run cs)
   PartRuns known (c ∷ cs) (Failed ∷ rs) = IsRealReply m answers fails known c Failed × (rs ≡ none_run cs)
   PartRuns known (c ∷ cs) (NotRun ∷ rs) = ⊥
+  PartRuns known (c ∷ cs) (Unknown ∷ rs) = IsRealReply m answers fails known c Unknown × (rs ≡ none_run cs)
+
+  -- those of a suffix before which some outcome is unknown
+  abbrev pub LateRuns : List (Option Value) → List Command → List Reply → Type 0
+  LateRuns known [] rs = rs ≡ []
+  LateRuns known (c ∷ cs) [] = ⊥
+  LateRuns known (c ∷ cs) (r ∷ rs) =
+      IsLateReply m answers fails known c r
+      × MatchBool (goes_on r) (LateRuns (known ++ result_of r ∷ []) cs rs) (rs ≡ none_run cs)
+
+  -- those of a suffix after these replies
+  abbrev pub SuffixRuns : List Reply → List Command → List Reply → Type 0
+  SuffixRuns before cs rs = MatchBool (all_answers before)
+      (PartRuns (map result_of before) cs rs)
+      (MatchBool (list_any is_failure before) (rs ≡ none_run cs) (LateRuns (map result_of before) cs rs))
 
   -- the replies of branches: each goes by what is known before all, and by no result of another branch
   abbrev pub BranchesRun : List (Option Value) → List (List Command) → List (List Reply) → Type 0

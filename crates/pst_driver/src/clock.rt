@@ -1,10 +1,11 @@
 //! The clock of a drive: when the calls of the branches were invoked and completed.
-ghost use Rattle.std.specs.Prelude.{◌≡◌, true, IfOk, IfSome, map};
-ghost use Rattle.pst_case.specs.Times.{AreTimed, called, fit};
+ghost use Rattle.std.specs.Prelude.{◌≡◌, true, IfOk, map};
+ghost use Rattle.pst_case.specs.Times.{called};
+ghost use Rattle.pst_case.specs.Unknown.{times_of_calls};
 ghost use Rattle.pst_driver.specs.Progress.{IsSameButTimes};
 
 use crate::waiting::StartBarrier;
-use pst_case::{CallTime, History, MAX_BRANCH, Reply, count_called, do_times_fit};
+use pst_case::{CallTime, History, MAX_BRANCH, Reply, count_called};
 use pst_value::Items;
 use std::alloc::{AllocError, Global};
 use std::sync::atomic::{AtomicU64, Ordering};
@@ -13,6 +14,7 @@ use std::sync::atomic::{AtomicU64, Ordering};
 #[derive(Drop)]
 struct TimePlace {
     invoked: AtomicU64,
+    /// 0 if nobody knows that the call completed. No call completes at 0, since it was invoked before.
     completed: AtomicU64,
 }
 
@@ -29,7 +31,10 @@ impl TimePlace {
     fn time(&self) -> CallTime {
         CallTime {
             invoked: self.invoked.load(Ordering::SeqCst),
-            completed: Some(self.completed.load(Ordering::SeqCst)),
+            completed: match self.completed.load(Ordering::SeqCst) {
+                0 => None,
+                completed => Some(completed),
+            },
         }
     }
 }
@@ -62,7 +67,7 @@ impl BranchTimes {
         })
     }
 
-    /// Fills the next place, if there is one.
+    /// Fills the next place, if there is one. A `completed` of 0 says that nobody knows that the call completed.
     fn record(&self, invoked: u64, completed: u64) {
         let number = self.count.fetch_add(1, Ordering::SeqCst);
         if let Some(place) = self.places.get(number as usize) {
@@ -169,22 +174,14 @@ impl CallClock {
         Ok(times)
     }
 
-    /// The times of the calls that the branches with these replies made. `None` if the clock has other times, which
-    /// no thread can bring about.
-    pub(crate) fn times(
+    /// The times of the calls that the branches with these replies made.
+    fn times(
         &self,
         alloc: Global,
         branches: &[Items<Reply>],
-    ) -> Result<Option<Items<Items<CallTime>>>, AllocError>
-        ensures { IfOk result (λ times. IfSome times (λ ts. fit (map called branches.now) ts ≡ true)) }
-    {
+    ) -> Result<Items<Items<CallTime>>, AllocError> {
         let counts = call_counts_of_branches(alloc, branches)?;
-        let times = self.times_of_branches(alloc, counts.as_slice())?;
-        if do_times_fit(counts.as_slice(), times.as_slice()) {
-            Ok(Some(times))
-        } else {
-            Ok(None)
-        }
+        self.times_of_branches(alloc, counts.as_slice())
     }
 }
 
@@ -250,13 +247,22 @@ pub(crate) fn start_clock(clock: Option<&CallClock>) {
     }
 }
 
-/// A history, with the times that a clock has of the calls of its branches.
+/// Returns whether the recorded times of a history fit its calls, if it has some.
+#[tactic(auto, using(crate::proofs::Timing::fitting_whole))]
+fn do_recorded_times_fit(alloc: Global, history: &History) -> Result<bool, AllocError>
+    ensures { IfOk result (λ fit. fit ≡ true → times_of_calls history.now ≡ history.now.times) }
+{
+    Ok(history.times_of_calls(alloc)?.is_some())
+}
+
+/// A history, with the times that a clock has of the calls of its branches. It has none if these do not fit its calls,
+/// which no thread can bring about.
 pub(crate) fn history_with_times(
     alloc: Global,
     clock: &CallClock,
     history: History,
 ) -> Result<History, AllocError>
-    ensures timed { IfOk result AreTimed }
+    ensures timed { IfOk result (λ h. times_of_calls h ≡ h.times) }
     ensures same { IfOk result (IsSameButTimes history) }
 {
     let times = clock.times(alloc, history.branches.as_slice())?;
@@ -266,12 +272,16 @@ pub(crate) fn history_with_times(
         suffix,
         ..
     } = history;
-    Ok(History {
+    let mut timed = History {
         prefix,
         branches,
         suffix,
-        times,
-    })
+        times: Some(times),
+    };
+    if !do_recorded_times_fit(alloc, &timed)? {
+        timed.times = None;
+    }
+    Ok(timed)
 }
 
 /// From where calls are made: the number of a branch, and the clock that records their times, if there is one.
@@ -298,12 +308,13 @@ impl<'a> CallSite<'a> {
         }
     }
 
-    /// Records a call that was invoked at this time and completed now, if there is a clock.
-    pub(crate) fn record_call(&self, invoked: u64) {
+    /// Records a call that was invoked at this time, if there is a clock. It completed now, unless its outcome is
+    /// unknown.
+    pub(crate) fn record_call(&self, invoked: u64, is_outcome_known: bool) {
         let Some(clock) = self.clock else {
             return;
         };
-        let completed = clock.tick();
+        let completed = if is_outcome_known { clock.tick() } else { 0 };
         if let Some(branch) = clock.get(self.branch) {
             branch.record(invoked, completed);
         }

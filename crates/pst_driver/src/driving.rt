@@ -2,11 +2,11 @@
 ghost use Rattle.std.specs.Prelude.{◌≡◌, ◌∷◌, [], true, None, IfOk, IfErr, MatchBool, MatchOption, map};
 ghost use Rattle.pst_driver.specs.FaultName.{fault_name};
 ghost use Rattle.pst_case.specs.Matches.{matches, replies_of};
-ghost use Rattle.pst_case.specs.Recorded.{recorded, result_of};
+ghost use Rattle.pst_case.specs.Recorded.{result_of};
 ghost use Rattle.pst_case.specs.Shape.{IsShaped, joined};
-ghost use Rattle.pst_case.specs.Times.{AreTimed};
+ghost use Rattle.pst_case.specs.Unknown.{times_of_calls};
 ghost use Rattle.pst_driver.specs.Driven.{IsDriven, IsDriveFault, all_answers, none_run};
-ghost use Rattle.pst_driver.specs.Progress.{PartRuns, BranchesRun, IsBranchFault, all_known};
+ghost use Rattle.pst_driver.specs.Progress.{BranchesRun, IsBranchFault, all_known};
 ghost use Rattle.std.specs.List.{list_all};
 ghost use Rattle.pst_system.specs.Kept.{AreKept};
 
@@ -14,6 +14,7 @@ use crate::branches::run_branches_on_threads;
 use crate::clock::{CallClock, CallSite, Meeting, history_with_times};
 use crate::part::{add_not_run_replies, call_commands_while_replies_are_values};
 use crate::subject::Subject;
+use crate::suffix::run_suffix_unless_a_call_failed;
 use pst_case::{Case, Command, History, Reply, results_of_replies};
 use pst_judge::Valid;
 use pst_model::Typed;
@@ -142,30 +143,6 @@ fn run_branches_if_prefix_has_values<S: Subject + Sync, R: Threads + Wait>(
     run_branches_on_threads(rt, alloc, typed, system, meeting, branches, known)
 }
 
-/// The replies of the suffix, which runs if each reply before it is a value, and else not at all.
-pub(crate) fn run_suffix_if_replies_are_values<S: Subject>(
-    alloc: Global,
-    typed: &Typed,
-    system: &S,
-    suffix: &[Command],
-    so_far: &History,
-) -> Result<Items<Reply>, AllocError>
-    requires { all_known typed.now suffix.now ≡ true }
-    ensures { IfOk result (λ rs. MatchBool (all_answers (replies_of so_far.now))
-        (PartRuns typed.now (S.may_answer system.now) (S.may_fail system.now)
-        (recorded so_far.now) suffix.now rs)
-        (rs ≡ none_run suffix.now)) }
-{
-    if !has_only_value_replies(so_far) {
-        let mut replies = Items::new(alloc);
-        add_not_run_replies(&mut replies, suffix)?;
-        return Ok(replies);
-    }
-    let known = so_far.recorded(alloc)?;
-    let site = CallSite::outside_branches();
-    call_commands_while_replies_are_values(alloc, typed, system, site, suffix, known)
-}
-
 /// Drives a case that has the shape of the model. The branches come together at `meeting`. The history has no times.
 fn drive_shaped_case<S: Subject + Sync, R: Threads + Wait>(
     rt: &R,
@@ -212,7 +189,7 @@ fn drive_shaped_case<S: Subject + Sync, R: Threads + Wait>(
         suffix: Items::new(alloc),
         times: None,
     };
-    let suffix = run_suffix_if_replies_are_values(
+    let suffix = run_suffix_unless_a_call_failed(
         alloc,
         typed,
         system,
@@ -235,8 +212,9 @@ fn drive_shaped_case<S: Subject + Sync, R: Threads + Wait>(
 /// Drives a valid case on a system: resets it, calls the commands of the prefix, runs the branches at once,
 /// each that is not empty on a thread of its own, and calls the commands of the suffix once all branches have
 /// ended. Returns the history of the replies, without times. The arguments of each call are plain, with recorded results for
-/// variables. After an answer that is no value of the result type, or a call that failed, the rest of its part
-/// does not run; after one in the prefix no branch does, and after one anywhere the suffix does not.
+/// variables. After an answer that is no value of the result type, or a call that failed or has an unknown outcome, the
+/// rest of its part does not run; after one in the prefix no branch does. The suffix does not run if a call before it failed
+/// or misfits. After an unknown outcome those of its commands do not run that need a result that is missing.
 ///
 /// `ResetFailed`: the reset failed. `NoThread`: the thread of a branch could not be started; those that were
 /// started are joined first. `NoMemory`: an allocation failed. The call waits for as long as the calls of the
@@ -277,7 +255,7 @@ pub fn run_timed<R: Threads + Wait>(
     ensures matches { IfOk result (λ h. matches typed.now valid.now.case h ≡ true) }
     ensures driven { IfOk result (λ h.
         IsDriven typed.now (answers system.old) (fails system.old) valid.now.case h) }
-    ensures timed { IfOk result AreTimed }
+    ensures timed { IfOk result (λ h. times_of_calls h ≡ h.times) }
     ensures fault { IfErr result (λ e. IsDriveFault (reset_fails system.old) valid.now.case e) }
     ensures kept { AreKept (answers system.new) (answers system.old) (fails system.new) (fails system.old)
         (reset_fails system.new) (reset_fails system.old) }

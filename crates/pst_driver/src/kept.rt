@@ -4,7 +4,7 @@ ghost use Rattle.std.specs.List.{list_all};
 ghost use Rattle.pst_case.specs.Matches.{matches};
 ghost use Rattle.pst_case.specs.Recorded.{result_of};
 ghost use Rattle.pst_case.specs.Shape.{IsShaped};
-ghost use Rattle.pst_case.specs.Times.{AreTimed};
+ghost use Rattle.pst_case.specs.Unknown.{times_of_calls};
 ghost use Rattle.pst_driver.specs.Driven.{IsDriven, IsDriveFault, all_answers, none_run};
 ghost use Rattle.pst_driver.specs.Progress.{BranchesRun, IsBranchFault};
 
@@ -14,12 +14,10 @@ use crate::branches::{
 use crate::clock::{CallSite, history_with_times, start_clock};
 use crate::crew::Crew;
 use crate::desk::WorkOrder;
-use crate::driving::{
-    DriveFault, are_all_replies_values, not_run_replies_of_branches,
-    run_suffix_if_replies_are_values,
-};
+use crate::driving::{DriveFault, are_all_replies_values, not_run_replies_of_branches};
 use crate::part::call_commands_while_replies_are_values;
 use crate::subject::{Relations, Subject};
+use crate::suffix::run_suffix_unless_a_call_failed;
 use pst_case::{Case, Command, History, Reply, copy_commands, results_of_replies};
 use pst_judge::Valid;
 use pst_model::Typed;
@@ -155,7 +153,7 @@ fn reset_and_drive_case_with_crew<J: Relations, S: Subject, R: Wait>(
         suffix: Items::new(alloc),
         times: None,
     };
-    let suffix = run_suffix_if_replies_are_values(
+    let suffix = run_suffix_unless_a_call_failed(
         alloc,
         typed,
         system,
@@ -206,7 +204,7 @@ pub fn drive_case_with_crew_and_check<J: Relations, S: Subject, R: Wait>(
     ensures matches { IfOk result (λ h. matches typed.now valid.now.case h ≡ true) }
     ensures driven { IfOk result (λ h. valid.now.model ≡ J.model
         → IsDriven valid.now.model J.answering J.failing valid.now.case h) }
-    ensures timed { IfOk result AreTimed }
+    ensures timed { IfOk result (λ h. times_of_calls h ≡ h.times) }
     ensures fault { IfErr result (λ e. IsDriveFault J.resetting valid.now.case e) }
 {
     let shaped = valid.shaped();

@@ -16,3 +16,7 @@ pub mod SymbolicTable
 pub mod Values
 pub mod Bounding
 pub mod Reaching
+pub mod Naming
+pub mod Unnamed
+pub mod Inhabited
+pub mod Unused

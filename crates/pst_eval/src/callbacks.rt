@@ -2,15 +2,18 @@
 ghost use Rattle.std.specs.Prelude.{◌≡◌, true, [], List, IfOk, IfSome, ◌≢◌};
 ghost use Rattle.pst_eval.specs.Callbacks.{Says, Given, GivenState, PreFits, NextFits, PostFits, init_of, command_of, pre_of, next_of, post_of, at_names};
 ghost use Rattle.pst_model.specs.Fitting.{is_state};
+ghost use Rattle.pst_model.specs.WellTyped.{WellModel};
 ghost use Rattle.pst_model.specs.declared.model.Source.{Source};
 ghost use Rattle.pst_value.specs.declared.ty.Ty.{Ty};
 ghost use Rattle.pst_value.specs.declared.ty.Ty.TheVariants as ty;
 ghost use Rattle.pst_eval.specs.Env.{env_of};
 ghost use Rattle.pst_operators.specs.Outcome.{Stuck};
 ghost use Rattle.pst_eval.specs.Places.{callback_name};
+ghost use Rattle.pst_eval.specs.Names.{next_names_result};
 
 use crate::context::{Context, Env};
 use crate::evaluation::eval;
+use crate::names::does_next_name_result;
 use pst_model::{
     Expr, Source, Typed, find_command_expression, find_initial_state_expression, operation_of,
 };
@@ -36,6 +39,12 @@ pub trait Callbacks {
     {
         None
     }
+
+    /// Whether the state after a call of an operation depends on its result, by the form of the model, which is well
+    /// typed. Allocates nothing.
+    fn next_names_result(&self, op: u32) -> bool
+        ensures form { result ≡ next_names_result (model self.now) op }
+        ensures well { WellModel (model self.now) };
 
     /// The initial state.
     fn init(&self, alloc: Global) -> Answer
@@ -118,6 +127,10 @@ impl<'a> Callbacks for Plain<'a> {
 
     fn well_typed(&self) -> Option<&Typed> {
         Some(self.typed)
+    }
+
+    fn next_names_result(&self, op: u32) -> bool {
+        does_next_name_result(self.typed.source(), op)
     }
 
     fn init(&self, alloc: Global) -> Answer {

@@ -1,17 +1,20 @@
 -- What a verdict by an order of the calls says of the interleavings in it.
-use Rattle.std.proofs.Common.{◌≡◌, ℕ, List, Bool, Option, Some, None, refl}
+use Rattle.std.proofs.Common.{◌≡◌, ℕ, List, Bool, false, Option, Some, None, refl, subst}
+use Rattle.std.specs.Prelude.{MatchBool}
 use Rattle.pst_case.specs.Recorded.{recorded}
+use Rattle.pst_case.specs.Unknown.{has_unknown}
 use Rattle.pst_case.specs.declared.case.Case.{Case}
 use Rattle.pst_case.specs.declared.history.CallTime.{CallTime}
 use Rattle.pst_case.specs.declared.history.History.{History}
 use Rattle.pst_judge.proofs.ByOrder.{times_fit, fitting_fit}
 use Rattle.pst_judge.proofs.InOrder.{any_from_verdict, same_verdict}
 use Rattle.pst_judge.proofs.InTime.{order_to_time, time_to_order}
-use Rattle.pst_judge.specs.ByOrder.{times_of, IsVerdictTimed, IsVerdictBy, order_of, order_by}
+use Rattle.pst_judge.specs.ByOrder.{times_of, IsVerdictTimed, IsVerdictOfKnown, IsVerdictBy, order_of, order_by, calls_order_by}
 use Rattle.pst_judge.specs.InOrder.{IsRunInOrder, IsVerdictInOrder, IsVerdictOfAmong, IsJudgedAmong}
 use Rattle.pst_judge.specs.InTime.{IsMergeInTime}
 use Rattle.pst_judge.specs.RealTime.{real_time}
 use Rattle.pst_judge.specs.Replay.{post_asked, branch_lengths}
+use Rattle.pst_judge.specs.Unknown.{IsVerdictWithUnknown}
 use Rattle.pst_judge.specs.Verdict.{first_broken}
 use Rattle.pst_judge.specs.declared.by_order.CallOrder.{CallOrder}
 use Rattle.pst_judge.specs.declared.by_order.CallOrder.TheVariants.{Any, Time}
@@ -42,7 +45,7 @@ module _ (m : Source) (c : Case) (h : History) (v : Verdict) where
       (time_to_order (branch_lengths c) times are) (order_to_time (branch_lengths c) times are) v is
 
   -- the verdict by an order of the calls is that over the interleavings in this order
-  verdict_in_order : (order : CallOrder) → IsVerdictBy order m c h v → IsVerdictInOrder m (order_by order c h) c h v
+  verdict_in_order : (order : CallOrder) → IsVerdictOfKnown order m c h v → IsVerdictInOrder m (order_by order c h) c h v
   verdict_in_order Any is = any_from_verdict m (post_asked m) c h v is
   verdict_in_order Time is = timed (times_of c h) refl is
 
@@ -56,5 +59,7 @@ module _ (m : Source) (c : Case) (h : History) (v : Verdict) where
   unexplained_of order None k j = refused order v k j
   unexplained_of order (Some number) k j = absurd (not_broken number v k j)
 
-  pub is_unexplained : (order : CallOrder) → IsVerdictBy order m c h v → IsRefusing v → IsUnexplained m (order_by order c h) c h
-  is_unexplained order is j = unexplained_of (order_by order c h) (first_broken 1 (recorded h)) (verdict_in_order order is) j
+  pub is_unexplained : (order : CallOrder) → has_unknown h ≡ false → IsVerdictBy order m c h v → IsRefusing v → IsUnexplained m (order_by order c h) c h
+  is_unexplained order known is j =
+      let of_known = subst (λ b. MatchBool b (IsVerdictWithUnknown m (calls_order_by order h) c h v) (IsVerdictOfKnown order m c h v)) known is in
+      unexplained_of (order_by order c h) (first_broken 1 (recorded h)) (verdict_in_order order of_known) j

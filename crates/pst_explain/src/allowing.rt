@@ -48,7 +48,7 @@ fn opposite_bool_reply(call: &Call<'_>) -> Option<Value> {
 }
 
 /// Returns a reply that may be right on `state`, the state before the command.
-fn wanted_reply_or_opposite_bool(
+pub fn wanted_reply_or_opposite_bool(
     alloc: Global,
     scene: &Scene<'_>,
     call: &Call<'_>,

@@ -176,6 +176,10 @@ impl<'a, C: Callbacks> StepLimitedCallbacks<'a, C> {
 impl<'a, C: Callbacks> Callbacks for StepLimitedCallbacks<'a, C> {
     ghost model = { λ b. C.model b.callbacks.now };
 
+    fn next_names_result(&self, op: u32) -> bool {
+        self.callbacks.next_names_result(op)
+    }
+
     fn init(&self, alloc: Global) -> Answer {
         self.note_and_fail_if_out_of_steps()?;
         let answer = self.callbacks.init(alloc)?;

@@ -107,7 +107,7 @@ fn set_allowed_values_and_needed_reason<'a, C: Callbacks, O: Order>(
 }
 
 /// Returns the answer of a command of a core, before its allowed values are known.
-fn core_answer_without_allowed_values<'a>(
+pub fn core_answer_without_allowed_values<'a>(
     alloc: Global,
     scene: &Scene<'a>,
     call: Call<'a>,

@@ -19,7 +19,7 @@ fn can_position_still_be_expanded(
     number: usize,
     position: &GraphPosition,
 ) -> bool {
-    position.number_of_calls_before() < scene.all.len() && !search.has_moves_from_position(number)
+    !position.is_at_end(scene) && !search.has_moves_from_position(number)
 }
 
 /// Whether the search stopped before its end.

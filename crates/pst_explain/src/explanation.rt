@@ -7,7 +7,7 @@ ghost use Rattle.pst_reasons.specs.Answered.{IsAnsweredRun};
 ghost use Rattle.pst_reasons.specs.Reasons.{IsUnexplained};
 
 use crate::bounded::StepLimitedCallbacks;
-use crate::breaking::{CallWithBrokenReply, call_with_broken_reply};
+use crate::breaking::{BreakingCall, breaking_call_numbered};
 use crate::cores::{Core, find_core_for_explanation};
 use crate::failures::{
     Failure, failure_at_fault_place, failure_in_unknown_interleaving,
@@ -15,6 +15,11 @@ use crate::failures::{
 };
 use crate::obstacles::{RuledOut, obstacles_within_limit};
 use crate::places::TreePlace;
+use crate::unknown::{
+    failure_in_first_fault_with_unknown_outcomes, furthest_states_with_unknown_outcomes,
+    states_of_explaining_letters,
+};
+use crate::unknown_cores::find_core_with_unknown_outcomes;
 use crate::walks::{
     InterleavingStates, furthest_interleaving_with_blocked_calls, states_of_explaining_interleaving,
 };
@@ -52,7 +57,7 @@ pub enum JudgementReason<'a> {
         core: Option<Core<'a>>,
     },
     /// A reply is not a value.
-    Broken(CallWithBrokenReply<'a>),
+    Broken(BreakingCall<'a>),
     /// A case is not valid.
     Invalid(Failure<'a>),
     /// There is nothing to explain, as for a valid case.
@@ -220,6 +225,76 @@ fn explain_unexplained_verdict<'a, C: Callbacks, O: Order>(
     })
 }
 
+/// Returns a core of a run in which calls have unknown outcomes, unless its search takes too many steps.
+fn core_with_unknown_outcomes<'a, C: Callbacks>(
+    callbacks: &C,
+    order: CallOrder,
+    alloc: Global,
+    scene: &Scene<'a>,
+    history: &History,
+) -> Result<Option<Core<'a>>, AllocError>
+    requires shaped { scene.now.run.now.shaped.model ≡ C.model callbacks.now }
+    requires matches { matches (C.model callbacks.now) scene.now.run.now.shaped.case history.now ≡ true }
+{
+    let shaped = &scene.run.shaped;
+    let _case = shaped.case();
+    let recorded = RecordedOrder::of_calls(alloc, order, history)?;
+    let bounded = StepLimitedCallbacks::new(callbacks, MOST_STEPS);
+    let run = RecordedRun {
+        callbacks: &bounded,
+        order: &recorded,
+        alloc,
+        shaped,
+        history,
+    };
+    bounded.none_if_out_of_steps(find_core_with_unknown_outcomes(&run, scene))
+}
+
+/// Returns the first fault of a run in which calls have unknown outcomes.
+fn first_fault_with_unknown_outcomes<'a>(
+    alloc: Global,
+    order: CallOrder,
+    scene: &Scene<'a>,
+    place: FaultPlace,
+) -> Result<Failure<'a>, AllocError> {
+    match failure_in_first_fault_with_unknown_outcomes(alloc, scene, order, place)? {
+        Some(failure) => Ok(failure),
+        None => failure_in_unknown_interleaving(alloc, scene, place),
+    }
+}
+
+/// Returns the reason of the verdict on a history in which calls have unknown outcomes.
+fn reason_with_unknown_outcomes<'a, C: Callbacks>(
+    callbacks: &C,
+    order: CallOrder,
+    alloc: Global,
+    scene: &Scene<'a>,
+    history: &History,
+    verdict: &Verdict,
+) -> Result<JudgementReason<'a>, AllocError>
+    requires shaped { scene.now.run.now.shaped.model ≡ C.model callbacks.now }
+    requires matches { matches (C.model callbacks.now) scene.now.run.now.shaped.case history.now ≡ true }
+{
+    match verdict {
+        Verdict::Explained(interleaving) => {
+            let walk = states_of_explaining_letters(alloc, scene, interleaving.as_slice())?;
+            Ok(JudgementReason::Explained(walk))
+        }
+        Verdict::Faulted(place) => Ok(JudgementReason::Faulted {
+            failure: first_fault_with_unknown_outcomes(alloc, order, scene, *place)?,
+            core: core_with_unknown_outcomes(callbacks, order, alloc, scene, history)?,
+        }),
+        Verdict::Unexplained(far) => Ok(JudgementReason::Unexplained {
+            far: *far,
+            core: core_with_unknown_outcomes(callbacks, order, alloc, scene, history)?,
+            furthest: furthest_states_with_unknown_outcomes(alloc, scene, order, *far)?,
+        }),
+        Verdict::Broken(number) => Ok(JudgementReason::Broken(breaking_call_numbered(
+            scene, *number,
+        ))),
+    }
+}
+
 /// Returns the reason of the verdict on a history, over the interleavings that count.
 fn explain_verdict<'a, C: Callbacks>(
     callbacks: &C,
@@ -235,6 +310,9 @@ fn explain_verdict<'a, C: Callbacks>(
     requires verdict { IsVerdictBy order (C.model callbacks.now) scene.now.run.now.shaped.case history.now
         verdict.now }
 {
+    if history.has_unknown() {
+        return reason_with_unknown_outcomes(callbacks, order, alloc, scene, history, verdict);
+    }
     let shaped = &scene.run.shaped;
     let recorded = RecordedOrder::new(alloc, order, shaped, history)?;
     let bounded = StepLimitedCallbacks::new(callbacks, MOST_STEPS);
@@ -259,7 +337,7 @@ fn explain_verdict<'a, C: Callbacks>(
         }
         Verdict::Faulted(place) => explain_fault_verdict(&run, scene, *place),
         Verdict::Unexplained(far) => explain_unexplained_verdict(&run, scene, *far),
-        Verdict::Broken(number) => Ok(JudgementReason::Broken(call_with_broken_reply(
+        Verdict::Broken(number) => Ok(JudgementReason::Broken(breaking_call_numbered(
             scene, *number,
         ))),
     }
@@ -315,6 +393,9 @@ fn ruled_out_if_unexplained<C: Callbacks>(
 {
     match (judged, &run.history) {
         (Judged::Verdict(Verdict::Unexplained(_) | Verdict::Faulted(_)), Some(history)) => {
+            if history.has_unknown() {
+                return Ok(RuledOut::Nothing);
+            }
             obstacles_within_limit(callbacks, order, alloc, &run.shaped, history)
         }
         _ => Ok(RuledOut::Nothing),

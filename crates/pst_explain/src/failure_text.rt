@@ -100,6 +100,9 @@ fn add_call_with_reply_if_any(
 
 /// Returns whether `interleaving` has a letter for each command of the branches.
 fn is_interleaving_of_full_length(scene: &Scene<'_>, interleaving: &[usize]) -> bool {
+    if scene.has_unknown {
+        return false;
+    }
     let mut count = 0usize;
     for branch in &scene.calls.branches {
         count = count.saturating_add(branch.len());

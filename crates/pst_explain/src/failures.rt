@@ -260,6 +260,30 @@ pub fn failure_of_call_in_interleaving<'a, O: Order>(
     })
 }
 
+/// Returns the failure of `call` at `place` after `calls`. `walk` is the walk along these.
+pub fn failure_after_calls<'a>(
+    alloc: Global,
+    scene: &Scene<'a>,
+    calls: &[Call<'_>],
+    walk: InterleavingStates<'a>,
+    call: Call<'a>,
+    place: FaultPlace,
+) -> Result<Failure<'a>, AllocError> {
+    let callback = place.callback;
+    let states = states_along_calls(alloc, scene, calls)?;
+    let expression = match states.as_slice().get(calls.len()) {
+        Some(state) => operation_expression_with_faulty_part(alloc, scene, callback, &call, state)?,
+        None => None,
+    };
+    Ok(Failure {
+        callback,
+        call: Some(call),
+        fault: Some(place.fault),
+        expression,
+        walk: Some(walk),
+    })
+}
+
 /// Returns the failure at `place` in `interleaving`.
 pub fn failure_at_fault_place<'a, O: Order>(
     alloc: Global,

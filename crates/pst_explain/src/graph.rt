@@ -7,6 +7,7 @@ use crate::bounded::StepLimitedCallbacks;
 use crate::drawing::search_graph_as_graphviz_text;
 use crate::explanation::MOST_STEPS;
 use crate::search::{build_interleaving_graph_with_dead_ends, build_search_graph_up_to_limit};
+use crate::unknown::{calls_before_first_fault, calls_of_furthest_interleaving};
 use pst_case::{History, Run};
 use pst_eval::Callbacks;
 use pst_judge::{
@@ -14,7 +15,7 @@ use pst_judge::{
 };
 use pst_model::Typed;
 use pst_scene::{
-    Call, CasePart, Scene, call_numbered, calls_before_call_in_interleaving,
+    Call, CasePart, Scene, call_numbered, calls_along_letters, calls_before_call_in_interleaving,
     calls_in_interleaving_order, first_calls, scene_of_run,
 };
 use std::alloc::{AllocError, Global};
@@ -113,6 +114,25 @@ fn calls_before_fault<'a>(
     calls_before_numbered_call(alloc, scene, whole.as_slice(), number)
 }
 
+/// The calls of a verdict's interleaving in a run in which calls have unknown outcomes, up to the first that cannot come
+/// next. There are none if the search for it is too large.
+fn calls_with_unknown_outcomes_until_failure<'a>(
+    order: CallOrder,
+    alloc: Global,
+    scene: &Scene<'a>,
+    verdict: &Verdict,
+) -> Result<Vec<Call<'a>>, AllocError> {
+    let found = match verdict {
+        Verdict::Explained(interleaving) => {
+            Some(calls_along_letters(alloc, &scene.counted, interleaving.as_slice())?)
+        }
+        Verdict::Faulted(_) => calls_before_first_fault(alloc, scene, order)?,
+        Verdict::Unexplained(far) => calls_of_furthest_interleaving(alloc, scene, order, *far)?,
+        Verdict::Broken(_) => None,
+    };
+    Ok(found.unwrap_or(Vec::new(alloc)))
+}
+
 /// The commands of a verdict's interleaving: of the one that explains or, as far as their postconditions are true, of
 /// the first that faults or of the one that gets furthest.
 fn calls_in_verdict_interleaving_until_failure<'a, C: Callbacks>(
@@ -126,6 +146,9 @@ fn calls_in_verdict_interleaving_until_failure<'a, C: Callbacks>(
     requires shaped { scene.now.run.now.shaped.model ≡ C.model callbacks.now }
     requires matches { matches (C.model callbacks.now) scene.now.run.now.shaped.case history.now ≡ true }
 {
+    if history.has_unknown() {
+        return calls_with_unknown_outcomes_until_failure(order, alloc, scene, verdict);
+    }
     let shaped = &scene.run.shaped;
     let recorded = RecordedOrder::new(alloc, order, shaped, history)?;
     match verdict {

@@ -3,7 +3,7 @@
 //! `explain_item` explains one item, whose judgement is known: over all interleavings, or over those in the order of its
 //! times. `append_explanation_text` writes the explanation in the form of `pst explain`. `tree_places_in_input` finds
 //! where the trees of an input begin, `explain_fault_in_generation` explains why no case can be generated, and
-//! `broken_reply_sentence_of_run` says which reply makes a run broken. Cores and the states of interleavings are from
+//! `breaking_call_sentence_of_run` says which command makes a run broken, and why. Cores and the states of interleavings are from
 //! `pst_reasons`, the interleavings from `pst_judge`. The rest of an explanation, and its text, is tested and not
 //! proved.
 //!
@@ -26,12 +26,14 @@ mod places;
 mod position;
 mod search;
 mod text;
+mod unknown;
+mod unknown_cores;
 mod walk_text;
 mod walks;
 
 pub use allowing::WrongAnswer;
 pub use bounded::StepLimitedCallbacks;
-pub use breaking::{CallWithBrokenReply, broken_reply_sentence_of_run};
+pub use breaking::{BreakingCall, BreakingCause, breaking_call_sentence_of_run};
 pub use cores::{Core, CoreAnswer};
 pub use explanation::{Explanation, JudgementReason, explain_item};
 pub use failure_text::explain_fault_in_generation;
@@ -48,4 +50,5 @@ pub use search::{GraphMove, GraphMoveTarget, SearchGraph, build_search_graph_if_
 pub use text::{
     append_colored_explanation_text, append_explanation_text, explanation_text_without_heading,
 };
+pub use unknown::calls_without_effect;
 pub use walks::{BlockedCall, InterleavingStates, InterleavingStep};

@@ -1,6 +1,6 @@
 //! The run of an item in columns.
 
-use pst_case::CallTime;
+use pst_case::{CallTime, Reply};
 use pst_scene::{Call, CasePart, Cell, Page, Scene, Style, Table, add_str};
 use std::alloc::{AllocError, Global};
 
@@ -17,14 +17,30 @@ pub struct MarkedRun<'s, 'a> {
     pub marked: &'s [u32],
 }
 
+/// Whether a command was called.
+fn was_called(call: &Call<'_>) -> bool {
+    match call.reply {
+        Some(Reply::NotRun) | None => false,
+        Some(_) => true,
+    }
+}
+
 /// The recorded times of a call, if there are some: those of a call of a branch.
 pub fn time_of_call(scene: &Scene<'_>, call: &Call<'_>) -> Option<CallTime> {
     let CasePart::Branch(branch) = call.part else {
         return None;
     };
+    if !was_called(call) {
+        return None;
+    }
     let times = scene.run.history.as_ref()?.times.as_ref()?;
-    let times = times.as_slice().get(branch)?;
-    times.as_slice().get(call.place.saturating_sub(1)).copied()
+    let mut index = 0usize;
+    for other in scene.calls.branches.get(branch)? {
+        if other.place < call.place && was_called(other) {
+            index = index.saturating_add(1);
+        }
+    }
+    times.as_slice().get(branch)?.as_slice().get(index).copied()
 }
 
 /// Adds when a call was invoked and when it completed, in the form of items.

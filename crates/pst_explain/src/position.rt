@@ -2,7 +2,7 @@
 
 use pst_judge::{CallOrder, RecordedOrder};
 use pst_reasons::Order;
-use pst_scene::{Call, CasePart, Scene};
+use pst_scene::{Call, Calls, CasePart, Scene};
 use pst_value::Value;
 use std::alloc::{AllocError, Global};
 
@@ -24,13 +24,17 @@ fn index_of_case_part(scene: &Scene<'_>, part: CasePart) -> usize {
     }
 }
 
-/// The order in which the calls of an item count; `None` if the item was not run.
+/// The order in which the calls of an item count; `None` if the item was not run. Calls of unknown outcome have no end.
 pub fn recorded_order_of_item<'s>(
     alloc: Global,
     order: CallOrder,
     scene: &'s Scene<'_>,
 ) -> Result<Option<RecordedOrder<'s>>, AllocError> {
     match &scene.run.history {
+        Some(history) if scene.has_unknown => {
+            let recorded = RecordedOrder::of_calls(alloc, order, history)?;
+            Ok(Some(recorded))
+        }
         Some(history) => {
             let recorded = RecordedOrder::new(alloc, order, &scene.run.shaped, history)?;
             Ok(Some(recorded))
@@ -45,6 +49,17 @@ fn is_branch_open(order: &Option<RecordedOrder<'_>>, done: &[usize], branch: usi
         Some(order) => order.is_open(done, branch),
         None => true,
     }
+}
+
+/// How many of `calls` have a known outcome. Those of unknown outcome come after them.
+fn count_calls_of_known_outcome(calls: &[Call<'_>]) -> usize {
+    let mut count = 0usize;
+    for call in calls {
+        if !call.has_unknown_outcome() {
+            count = count.saturating_add(1);
+        }
+    }
+    count
 }
 
 /// The counts of the position before all commands.
@@ -66,6 +81,23 @@ impl GraphPosition {
         state: Value,
     ) -> Result<GraphPosition, AllocError> {
         let counts = zero_count_for_each_part(alloc, scene)?;
+        Ok(GraphPosition { counts, state })
+    }
+
+    /// The position after `calls`, which lead to `state`.
+    pub fn after_calls(
+        alloc: Global,
+        scene: &Scene<'_>,
+        calls: &[Call<'_>],
+        state: &Value,
+    ) -> Result<GraphPosition, AllocError> {
+        let mut counts = zero_count_for_each_part(alloc, scene)?;
+        for call in calls {
+            if let Some(count) = counts.get_mut(index_of_case_part(scene, call.part)) {
+                *count = count.saturating_add(1);
+            }
+        }
+        let state = state.copy(alloc)?;
         Ok(GraphPosition { counts, state })
     }
 
@@ -139,7 +171,7 @@ impl GraphPosition {
     ) -> Result<Vec<Call<'a>>, AllocError> {
         let done = self.call_counts_by_branch(scene);
         let mut next = Vec::new(alloc);
-        for (number, branch) in scene.calls.branches.iter().enumerate() {
+        for (number, branch) in scene.counted.branches.iter().enumerate() {
             let part = CasePart::Branch(number);
             if let Some(call) = self.next_call_of_part(scene, part, branch.as_slice()) {
                 if is_branch_open(order, done, number) {
@@ -150,32 +182,87 @@ impl GraphPosition {
         Ok(next)
     }
 
+    /// Whether the calls of a part that have a known outcome are before the position.
+    fn is_behind_known_calls_of_part(
+        &self,
+        scene: &Scene<'_>,
+        part: CasePart,
+        calls: &[Call<'_>],
+    ) -> bool {
+        match self.counts.get(index_of_case_part(scene, part)) {
+            Some(count) => *count >= count_calls_of_known_outcome(calls),
+            None => true,
+        }
+    }
+
+    /// Whether the calls of the branches that have a known outcome are before the position.
+    fn is_behind_known_calls_of_branches(&self, scene: &Scene<'_>) -> bool {
+        for (number, branch) in scene.counted.branches.iter().enumerate() {
+            let part = CasePart::Branch(number);
+            if !self.is_behind_known_calls_of_part(scene, part, branch.as_slice()) {
+                return false;
+            }
+        }
+        true
+    }
+
+    /// Whether all calls that have a known outcome are before the position.
+    pub fn is_at_end(&self, scene: &Scene<'_>) -> bool {
+        let Calls { prefix, suffix, .. } = &scene.counted;
+        self.is_behind_known_calls_of_part(scene, CasePart::Prefix, prefix.as_slice())
+            && self.is_behind_known_calls_of_branches(scene)
+            && self.is_behind_known_calls_of_part(scene, CasePart::Suffix, suffix.as_slice())
+    }
+
+    /// The calls that may come next after the calls of the prefix that answered, in a run in which calls have unknown
+    /// outcomes: one of each branch that the order lets come next, that of unknown outcome in the prefix, and that of the
+    /// suffix if the calls of the branches that answered are done.
+    fn next_calls_with_unknown_outcomes<'a>(
+        &self,
+        alloc: Global,
+        scene: &Scene<'a>,
+        order: &Option<RecordedOrder<'_>>,
+    ) -> Result<Vec<Call<'a>>, AllocError> {
+        let Calls { prefix, suffix, .. } = &scene.counted;
+        if self.is_at_end(scene) {
+            return Ok(Vec::new(alloc));
+        }
+        let mut next = self.next_calls_of_open_branches(alloc, scene, order)?;
+        if let Some(call) = self.next_call_of_part(scene, CasePart::Prefix, prefix.as_slice()) {
+            next.push(call)?;
+        }
+        if self.is_behind_known_calls_of_branches(scene) {
+            if let Some(call) = self.next_call_of_part(scene, CasePart::Suffix, suffix.as_slice()) {
+                next.push(call)?;
+            }
+        }
+        Ok(next)
+    }
+
     /// The commands that may come next: that of the prefix, or one of each branch that the order lets come next, or that
-    /// of the suffix.
+    /// of the suffix. A call of unknown outcome may come later than that.
     pub fn next_calls<'a>(
         &self,
         alloc: Global,
         scene: &Scene<'a>,
         order: &Option<RecordedOrder<'_>>,
     ) -> Result<Vec<Call<'a>>, AllocError> {
+        let Calls { prefix, suffix, .. } = &scene.counted;
         let mut one = Vec::new(alloc);
-        if let Some(call) = self.next_call_of_part(
-            scene,
-            CasePart::Prefix,
-            scene.calls.prefix.as_slice(),
-        ) {
-            one.push(call)?;
-            return Ok(one);
+        if let Some(call) = self.next_call_of_part(scene, CasePart::Prefix, prefix.as_slice()) {
+            if !call.has_unknown_outcome() {
+                one.push(call)?;
+                return Ok(one);
+            }
+        }
+        if scene.has_unknown {
+            return self.next_calls_with_unknown_outcomes(alloc, scene, order);
         }
         let next = self.next_calls_of_open_branches(alloc, scene, order)?;
         if !next.is_empty() {
             return Ok(next);
         }
-        if let Some(call) = self.next_call_of_part(
-            scene,
-            CasePart::Suffix,
-            scene.calls.suffix.as_slice(),
-        ) {
+        if let Some(call) = self.next_call_of_part(scene, CasePart::Suffix, suffix.as_slice()) {
             one.push(call)?;
         }
         Ok(one)

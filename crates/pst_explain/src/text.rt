@@ -1,11 +1,12 @@
 //! The text of explanations.
 
-use crate::breaking::{CallWithBrokenReply, broken_reply_sentence};
+use crate::breaking::{BreakingCall, breaking_call_sentence};
 use crate::core_text::add_optional_core_and_run_text;
 use crate::explanation::{Explanation, JudgementReason};
 use crate::failure_text::add_failure_explanation_text;
 use crate::obstacles::{RuledOut, add_obstacles_text};
 use crate::parts::{MarkedRun, add_marked_run_text};
+use crate::unknown::calls_without_effect;
 use crate::walk_text::{
     add_blocked_calls_text, add_explaining_interleaving_with_precondition_notes,
     add_interleaving_states_text,
@@ -14,7 +15,7 @@ use crate::walks::InterleavingStates;
 use pst_judge::{Judged, Verdict};
 use pst_model::Source;
 use pst_scene::{
-    Page, Scene, Style, add_interleaving_letters_or_dash, add_number, add_str,
+    Call, Page, Scene, Style, add_interleaving_letters_or_dash, add_number, add_str,
     copy_explanation_text,
 };
 use std::alloc::{AllocError, Global};
@@ -133,9 +134,9 @@ fn add_broken_reply_and_run_text(
     alloc: Global,
     scene: &Scene<'_>,
     is_timed: bool,
-    broken: &CallWithBrokenReply<'_>,
+    broken: &BreakingCall<'_>,
 ) -> Result<(), AllocError> {
-    if let Some(mut sentence) = broken_reply_sentence(alloc, scene.model, broken)? {
+    if let Some(mut sentence) = breaking_call_sentence(alloc, scene.model, broken)? {
         add_str(&mut sentence, ".")?;
         page.add_wrapped_sentence(alloc, 2, sentence.as_slice())?;
     }
@@ -171,6 +172,38 @@ fn add_any_obstacles_text(
     }
 }
 
+/// Returns a sentence on the calls of unknown outcome that took no effect in an interleaving. There is at least one.
+fn sentence_on_calls_without_effect(
+    alloc: Global,
+    model: &Source,
+    calls: &[Call<'_>],
+) -> Result<Vec<u8>, AllocError> {
+    let mut text = Vec::new(alloc);
+    for (index, call) in calls.iter().enumerate() {
+        if index > 0 {
+            add_str(&mut text, ", ")?;
+        }
+        call.add_text_with_reply_or_variable(&mut text, alloc, model)?;
+    }
+    add_str(&mut text, " took no effect, or only after the last answer.")?;
+    Ok(text)
+}
+
+/// Adds which calls of unknown outcome took no effect in the interleaving that explains a run, if there are some.
+fn add_calls_without_effect_text(
+    page: &mut Page,
+    alloc: Global,
+    scene: &Scene<'_>,
+    walk: &InterleavingStates<'_>,
+) -> Result<(), AllocError> {
+    let calls = calls_without_effect(alloc, scene, walk)?;
+    if calls.is_empty() {
+        return Ok(());
+    }
+    let sentence = sentence_on_calls_without_effect(alloc, scene.model, calls.as_slice())?;
+    page.add_wrapped_sentence(alloc, 2, sentence.as_slice())
+}
+
 /// Adds the reason of the judgement.
 fn add_judgement_reason_text(
     page: &mut Page,
@@ -180,12 +213,10 @@ fn add_judgement_reason_text(
     let scene = &explanation.scene;
     let is_timed = explanation.is_timed;
     match &explanation.reason {
-        JudgementReason::Explained(walk) => add_explaining_interleaving_with_precondition_notes(
-            page,
-            alloc,
-            scene.model,
-            walk,
-        ),
+        JudgementReason::Explained(walk) => {
+            add_explaining_interleaving_with_precondition_notes(page, alloc, scene.model, walk)?;
+            add_calls_without_effect_text(page, alloc, scene, walk)
+        }
         JudgementReason::Unexplained {
             far,
             core,

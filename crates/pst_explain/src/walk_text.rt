@@ -114,6 +114,18 @@ fn add_blocked_call_row(
     table.add_row(row_of_two_plain_cells(alloc, text, why)?)
 }
 
+/// The sentence before the commands that cannot come next.
+fn sentence_before_blocked_calls(stopped: &[BlockedCall<'_>]) -> &'static str {
+    if stopped.iter().any(|stop| stop.call.has_unknown_outcome()) {
+        return "There no next command fits:";
+    }
+    if stopped.len() == 1 {
+        "There the postcondition of the next command is false:"
+    } else {
+        "There the postcondition of each next command is false:"
+    }
+}
+
 /// Adds each command that cannot come next, with its reply and the reason.
 pub fn add_blocked_calls_text(
     page: &mut Page,
@@ -121,15 +133,8 @@ pub fn add_blocked_calls_text(
     model: &Source,
     stopped: &[BlockedCall<'_>],
 ) -> Result<(), AllocError> {
-    page.add_wrapped_sentence(
-        alloc,
-        2,
-        if stopped.len() == 1 {
-            b"There the postcondition of the next command is false:"
-        } else {
-            b"There the postcondition of each next command is false:"
-        },
-    )?;
+    let sentence = sentence_before_blocked_calls(stopped);
+    page.add_wrapped_sentence(alloc, 2, sentence.as_bytes())?;
     let mut table = Table::new(alloc)?;
     for stop in stopped {
         add_blocked_call_row(&mut table, alloc, model, stop)?;

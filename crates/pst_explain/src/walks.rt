@@ -135,7 +135,7 @@ fn interleaving_of_calls(alloc: Global, calls: &[Call<'_>]) -> Result<Vec<usize>
 }
 
 /// Adds the command to `stopped` if it cannot come next on `state`.
-fn add_call_if_blocked<'a>(
+pub fn add_call_if_blocked<'a>(
     stopped: &mut Vec<BlockedCall<'a>>,
     alloc: Global,
     scene: &Scene<'a>,

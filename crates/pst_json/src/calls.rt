@@ -44,6 +44,7 @@ fn write_json_reply_with_text(
         Reply::Misfit => write_json_reply_without_value(writer, "misfit"),
         Reply::Failed => write_json_reply_without_value(writer, "failed"),
         Reply::NotRun => write_json_reply_without_value(writer, "not-run"),
+        Reply::Unknown => write_json_reply_without_value(writer, "unknown"),
     }
 }
 

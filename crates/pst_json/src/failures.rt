@@ -1,14 +1,16 @@
-//! Callbacks that fail, and replies that are not values.
+//! Callbacks that fail, and commands that break a run.
 
 use crate::calls::{write_json_call_id, write_json_call_member_with_id};
 use crate::writing::{
-    write_json_byte_string, write_json_expression_text_member, write_json_spelling_cut_if_long,
-    write_json_text_member, write_json_type_text,
+    write_json_bool_member, write_json_byte_string, write_json_expression_text_member,
+    write_json_spelling_cut_if_long, write_json_text_member, write_json_type_text,
 };
 use json::Writer;
-use pst_explain::{CallWithBrokenReply, ExpressionWithNameValues, Failure, FaultyPartWithValues};
+use pst_explain::{
+    BreakingCall, BreakingCause, ExpressionWithNameValues, Failure, FaultyPartWithValues,
+};
 use pst_model::Source;
-use pst_scene::{Binding, value_text};
+use pst_scene::{Binding, Call, value_text};
 use std::alloc::{AllocError, Global};
 
 /// Writes a name with its value.
@@ -98,20 +100,52 @@ pub fn write_json_false_or_faulty_callback_member(
     writer.end_object()
 }
 
-/// Writes the member `broken`: the call whose reply is not a value, and the expected type.
-pub fn write_json_call_with_broken_reply_member(
+/// Writes a member with the place of a call.
+fn write_json_other_call_member(
     writer: &mut Writer<Global>,
     alloc: Global,
-    broken: &CallWithBrokenReply<'_>,
+    key: &str,
+    call: &Call<'_>,
+) -> Result<(), AllocError> {
+    writer.key(key)?;
+    write_json_call_id(writer, alloc, call)
+}
+
+/// Writes the member that says why a call breaks its run: `wanted`, `after`, `needs` or `next`.
+fn write_json_breaking_cause_member(
+    writer: &mut Writer<Global>,
+    alloc: Global,
+    broken: &BreakingCall<'_>,
+) -> Result<(), AllocError> {
+    match &broken.cause {
+        BreakingCause::NoValue => match broken.wanted {
+            Some(wanted) => {
+                writer.key("wanted")?;
+                write_json_type_text(writer, alloc, wanted)
+            }
+            None => Ok(()),
+        },
+        BreakingCause::AfterUnknown(other) => write_json_other_call_member(
+            writer, alloc, "after", other,
+        ),
+        BreakingCause::NeedsResult(other) => write_json_other_call_member(
+            writer, alloc, "needs", other,
+        ),
+        BreakingCause::ChangesStateByResult => write_json_bool_member(writer, "next", true),
+    }
+}
+
+/// Writes the member `broken`: the call that breaks its run, and why.
+pub fn write_json_breaking_call_member(
+    writer: &mut Writer<Global>,
+    alloc: Global,
+    broken: &BreakingCall<'_>,
 ) -> Result<(), AllocError> {
     writer.key("broken")?;
     writer.begin_object()?;
     if let Some(call) = &broken.call {
         write_json_call_member_with_id(writer, alloc, call)?;
     }
-    if let Some(wanted) = broken.wanted {
-        writer.key("wanted")?;
-        write_json_type_text(writer, alloc, wanted)?;
-    }
+    write_json_breaking_cause_member(writer, alloc, broken)?;
     writer.end_object()
 }

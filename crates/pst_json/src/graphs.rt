@@ -165,8 +165,8 @@ fn write_json_graph_member(
     writer.end_object()
 }
 
-/// Writes the member `search`: how many interleavings there are, unless only those in order of time count, and how many
-/// positions and moves `search` has.
+/// Writes the member `search`: how many interleavings there are, unless only those in order of time count or a call has an
+/// unknown outcome, and how many positions and moves `search` has.
 fn write_json_search_counts_member(
     writer: &mut Writer<Global>,
     explanation: &Explanation<'_>,
@@ -174,7 +174,7 @@ fn write_json_search_counts_member(
 ) -> Result<(), AllocError> {
     writer.key("search")?;
     writer.begin_object()?;
-    if !explanation.is_timed {
+    if !explanation.is_timed && !explanation.scene.has_unknown {
         writer.key("orders")?;
         writer.u64(count_interleavings(&explanation.scene))?;
     }

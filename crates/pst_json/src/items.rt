@@ -4,11 +4,11 @@ ghost use Rattle.pst_json.specs.Page.{IsPageText};
 
 use crate::calls::write_json_calls_member;
 use crate::failures::{
-    write_json_call_with_broken_reply_member, write_json_false_or_faulty_callback_member,
+    write_json_breaking_call_member, write_json_false_or_faulty_callback_member,
 };
 use crate::graphs::write_json_search_counts_and_any_graph;
 use crate::reasons::{write_json_core_members, write_json_obstacles_member};
-use crate::walks::write_json_interleaving_states_member;
+use crate::walks::{write_json_calls_without_effect_if_any, write_json_interleaving_states_member};
 use crate::writing::{into_page_safe_ascii_json, write_json_number_member, write_json_text_member};
 use json::Writer;
 use pst_explain::{Explanation, JudgementReason, RuledOut, TreePlace};
@@ -121,11 +121,14 @@ fn write_json_reason_members(
     if let Some(walk) = reason.interleaving() {
         write_json_interleaving_states_member(writer, alloc, explanation, walk)?;
     }
+    if let JudgementReason::Explained(walk) = reason {
+        write_json_calls_without_effect_if_any(writer, alloc, &explanation.scene, walk)?;
+    }
     if let Some(failure) = reason.failure() {
         write_json_false_or_faulty_callback_member(writer, alloc, model, failure)?;
     }
     if let JudgementReason::Broken(broken) = reason {
-        write_json_call_with_broken_reply_member(writer, alloc, broken)?;
+        write_json_breaking_call_member(writer, alloc, broken)?;
     }
     write_json_left_out_names_if_any(writer, explanation)
 }

@@ -7,7 +7,7 @@ pub const BEFORE_DATA: &str = r##"<!DOCTYPE html>
 <head>
 <meta charset="utf-8">
 <meta name="viewport" content="width=device-width, initial-scale=1">
-<meta http-equiv="Content-Security-Policy" content="default-src 'none'; style-src 'sha256-AOUxHUujGZzrf7FBY24ZPQu5mez8hyzs5Qqq6AJ7RZ0='; script-src 'sha256-kU9GxRuhLvtBP+sUhPbNussSJelnAJswRJsXvorBJ+0='; base-uri 'none'; form-action 'none'">
+<meta http-equiv="Content-Security-Policy" content="default-src 'none'; style-src 'sha256-AOUxHUujGZzrf7FBY24ZPQu5mez8hyzs5Qqq6AJ7RZ0='; script-src 'sha256-SkBqqdrS4vAbFVKZZygvQd7WaKcValwUoljo6OLqN/c='; base-uri 'none'; form-action 'none'">
 <title>pst explain</title>
 <style>
 /* A color for each branch, and pairs of colors for wrong, right and doubtful. Each is doubled by a letter or a sign. */
@@ -297,7 +297,9 @@ const orderCount = () => item.search && item.search.orders;
 const isInTime = () => item.order === 'time'; // whether only orders in time count
 const command = ({op, args}, owner = item) => op + '(' + args.map(value => spell(value.text, owner)).join(', ') + ')';
 const answer = (call, owner = item) => call.reply ? spell(call.reply.text, owner) : null;
-const hasValue = call => call.reply && !['misfit', 'failed', 'not-run'].includes(call.reply.text);
+const hasValue = call => call.reply && !['misfit', 'failed', 'not-run', 'unknown'].includes(call.reply.text);
+const isUnknown = call => call.reply && call.reply.text === 'unknown';
+const hasUnknown = () => item.calls.some(isUnknown); // whether the outcome of a call is unknown
 const rule = call => item.kind === 'run' ? operations.get(call.op).post : operations.get(call.op).pre;
 const chip = id => h('span', {class: 'id part-' + id[0]}, id);
 const place = ({at, trial}) => at ? at.file + ':' + at.line : trial !== undefined ? 'trial ' + trial : '';
@@ -371,7 +373,7 @@ function blame() {
 }
 
 /** The order of the verdict, as chips; `null` if the prefix is all there is. */
-const orderChips = () => item.walk && item.walk.word !== '-' ? join([...item.walk.word].map(chip), ' ') : null;
+const orderChips = () => item.walk && item.walk.word !== '-' ? join([...item.walk.word].map(letter => chip(letter === '.' ? 'X' : letter)), ' ') : null;
 function faultPlace() {
   const {call: id, callback, outcome} = item.callback;
   return [id ? ['the ' + CALLBACKS[callback] + ' of ', chip(id)] : 'the initial state', ' faults with ', faultName(outcome)];
@@ -381,12 +383,16 @@ const LEADS = {
   unexplained: blame,
   explained: () => {
     const order = orderChips(), unmet = item.walk.steps.filter(step => step.pre).map(step => chip(step.call));
-    return ['One after another', order && [', as in ', order], ', the calls answer exactly what the model says',
+    const idle = (item.no_effect || []).map(chip);
+    return ['One after another', order && [', as in ', order], ', the calls answer exactly what the model says', idle.length > 0 && ['; ', join(idle, ', ', ' and '), ' took no effect, or only after the last answer'],
       unmet.length ? ['. The precondition of ', join(unmet, ', ', ' and '), ' is not true there; a recorded run may do that.'] : '.'];
   },
   fault: () => ['No order ', isInTime() && 'in time ', 'explains the answers, and in some ', faultPlace(), '. ', isLeftOut('core') ? CORE_LEFT_OUT : core().length > 0 ? ['Besides, ', blame()] : 'No answer is to blame.'],
   broken: () => {
-    const {call: id, wanted} = item.broken, reply = call(id).reply.text;
+    const {call: id, wanted, after, needs, next} = item.broken, reply = call(id).reply.text;
+    if (after) return [chip(id), ' was called after ', chip(after), ', whose outcome is unknown: the calls after it in its part are not made.'];
+    if (needs) return [chip(id), ' uses the result of ', chip(needs), ', which has none: it cannot have been called.'];
+    if (next) return ['The outcome of ', chip(id), ' is unknown, but the next state depends on its answer: nobody knows the state after it.'];
     return [chip(id), NO_VALUE[reply] || ' answered something other than', ' a value of type ', h('code', null, wanted), ' (', reply, ').'];
   },
   valid: () => ['In ', orderCount() > 1 ? 'each of the ' + count(orderCount(), 'order') : 'each order', ' each precondition is true, and the model has a next state.'],
@@ -502,7 +508,7 @@ const against = () => item.in_time ? item.in_time.against : [];
 /** What a bar says, in sentences. */
 function timeText(call) {
   const [began, answered] = call.time, isBlamed = core().some(answer => answer.call === call.id);
-  return [call.id + ' ' + command(call) + (hasValue(call) ? ' answered ' + middle(answer(call), 200) : ' gave no value') + '.',
+  return [call.id + ' ' + command(call) + (hasValue(call) ? ' answered ' + middle(answer(call), 200) : isUnknown(call) ? ' has an unknown outcome' : ' gave no value') + '.',
     'It began at ' + began + (answered === null ? ', and nobody knows when it was answered.' : ' and was answered at ' + answered + '.'),
     isBlamed && 'Its answer is in the core.',
     ...against().filter(({later}) => later === call.id).map(({earlier}) => 'It began after ' + earlier + ' had been answered.'),
@@ -632,7 +638,8 @@ function layOut() {
 }
 
 function graphNode(i, {label, refused, width, x, top, bottom}) {
-  const kind = sum(nodes[i].at) === item.calls.length ? ' end' : refused[i] && moves(i).every(move => move.why) ? ' dead' : '';
+  const isEnd = hasUnknown() ? moves(i).length === 0 : sum(nodes[i].at) === item.calls.length;
+  const kind = isEnd ? ' end' : refused[i] && moves(i).every(move => move.why) ? ' dead' : '';
   const reasons = moves(i).filter(move => move.why).map(move => '\n' + move.call + ' cannot come next: ' + move.why.text).join('');
   return h('g', {class: 'node' + kind, 'data-node': i, onclick: () => reach(i)}, h('title', null, 'state ' + spell(nodes[i].state) + reasons),
     h('rect', {x: x(i) - width / 2, y: top(i), width, height: bottom(i) - top(i), rx: 7}), h('text', {x: x(i), y: top(i) + 13}, label[i]),

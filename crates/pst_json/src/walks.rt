@@ -1,15 +1,16 @@
 //! Interleavings.
 
-use crate::calls::write_json_call_member_with_id;
+use crate::calls::{write_json_call_id, write_json_call_member_with_id};
 use crate::reasons::write_json_dead_end_member;
 use crate::values::write_json_state_spelling_member;
 use crate::writing::{write_json_byte_string, write_json_text_member};
 use json::Writer;
 use pst_explain::{
     BlockedCall, Explanation, InterleavingStates, InterleavingStep, JudgementReason,
+    calls_without_effect,
 };
 use pst_model::Source;
-use pst_scene::{PreAnswer, add_interleaving_letters_or_dash};
+use pst_scene::{PreAnswer, Scene, add_interleaving_letters_or_dash};
 use std::alloc::{AllocError, Global};
 
 /// Writes a member whose value is an interleaving of branches.
@@ -92,6 +93,26 @@ fn write_json_interleaving_steps_member(
     writer.begin_array()?;
     for step in steps {
         write_json_interleaving_step(writer, alloc, model, step)?;
+    }
+    writer.end_array()
+}
+
+/// Writes the member `no_effect`: the calls of unknown outcome that took no effect in the interleaving that explains an
+/// item, if there are some.
+pub fn write_json_calls_without_effect_if_any(
+    writer: &mut Writer<Global>,
+    alloc: Global,
+    scene: &Scene<'_>,
+    walk: &InterleavingStates<'_>,
+) -> Result<(), AllocError> {
+    let calls = calls_without_effect(alloc, scene, walk)?;
+    if calls.is_empty() {
+        return Ok(());
+    }
+    writer.key("no_effect")?;
+    writer.begin_array()?;
+    for call in &calls {
+        write_json_call_id(writer, alloc, call)?;
     }
     writer.end_array()
 }

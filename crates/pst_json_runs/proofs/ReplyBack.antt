@@ -116,6 +116,7 @@ module _ (m : Source) (model : WellModel m) (has : HasOperations m.items) (langu
   reply_back c reply.Misfit a e = refl
   reply_back c reply.Failed a e = refl
   reply_back c reply.NotRun a e = refl
+  reply_back c reply.Unknown a e = refl
 
   replies_back : (cs : List Command) (rs : List Reply) → EachCommand m cs → part_matches m cs rs ≡ true
       → read.reply_forms m (items_of (map (json.command_json m) cs)) (items_of (map json.reply_json rs)) ≡ map reply_form rs

@@ -102,6 +102,7 @@ abbrev pub outcome_at : List ℕ → Json → Option (List ℕ)
 outcome_at name null =
     if bytes_eq name (codes "failed") then Some (codes "failed")
     else if bytes_eq name (codes "misfit") then Some (codes "misfit")
+    else if bytes_eq name (codes "unknown") then Some (codes "unknown")
     else None
 outcome_at name _ = None
 
@@ -109,7 +110,7 @@ abbrev pub outcome_in : Members → Option (List ℕ)
 outcome_in (member name j no_members) = outcome_at name j
 outcome_in _ = None
 
--- `null`, `{"failed":null}` and `{"misfit":null}`, none of which spells a value
+-- `null`, `{"failed":null}`, `{"misfit":null}` and `{"unknown":null}`, none of which spells a value
 abbrev pub outcome_of : Json → Option (List ℕ)
 outcome_of null = Some (codes "not-run")
 outcome_of (object ms) = outcome_in ms

@@ -34,6 +34,7 @@ reply_json (reply.Value v) = json_of v
 reply_json reply.Misfit = outcome_json (codes "misfit")
 reply_json reply.Failed = outcome_json (codes "failed")
 reply_json reply.NotRun = null
+reply_json reply.Unknown = outcome_json (codes "unknown")
 
 abbrev pub list_json : List Reply → Json
 list_json replies = array (items_of (map reply_json replies))

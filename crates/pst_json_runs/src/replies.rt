@@ -38,6 +38,8 @@ fn outcome_of_null_json_member(name: &str, json: &Json<'_>) -> Option<&'static s
             Some("failed")
         } else if name == "misfit" {
             Some("misfit")
+        } else if name == "unknown" {
+            Some("unknown")
         } else {
             None
         },

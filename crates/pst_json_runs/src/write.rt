@@ -128,6 +128,7 @@ fn write_json_reply(writer: &mut Writer<Global>, reply: &Reply) -> Result<(), Al
         Reply::Misfit => write_json_outcome_without_value(writer, "misfit"),
         Reply::Failed => write_json_outcome_without_value(writer, "failed"),
         Reply::NotRun => writer.null(),
+        Reply::Unknown => write_json_outcome_without_value(writer, "unknown"),
     }
 }
 

@@ -1,8 +1,9 @@
 -- Times that fit are the times of the commands, and the verdict by an order.
 use Rattle.std.proofs.Common.{◌≡◌, ℕ, zero, suc, ◌≤◌, List, [], ◌∷◌, length, Bool, true, false, if◌then◌else◌, Option, Some, None, MatchOption, refl, sym, ap, subst, ◌∙◌}
 use Rattle.std.proofs.lemmas.Bool.{and_parts, eqb-true, leb-true}
-use Rattle.std.specs.Prelude.{slice_get, slice_index, IfSome}
+use Rattle.std.specs.Prelude.{slice_get, slice_index, IfSome, MatchBool}
 use Rattle.pst_case.specs.Times.{fit, is_timely, is_no_later, is_over_by, is_over_by_first, are_in_turn}
+use Rattle.pst_case.specs.Unknown.{has_unknown}
 use Rattle.pst_case.specs.declared.case.Case.{Case}
 use Rattle.pst_case.specs.declared.history.CallTime.{CallTime}
 use Rattle.pst_case.specs.declared.history.History.{History}
@@ -11,18 +12,19 @@ use Rattle.pst_grid.specs.Merges.{IsMerge}
 use Rattle.pst_judge.proofs.InOrder.{any_to_verdict, same_verdict}
 use Rattle.pst_judge.proofs.InTime.{order_to_time, time_to_order}
 use Rattle.pst_judge.proofs.Timely.{real-time-never-blocks}
-use Rattle.pst_judge.specs.ByOrder.{fitting, times_of, IsVerdictTimed, IsVerdictBy, order_of, order_by}
+use Rattle.pst_judge.specs.ByOrder.{fitting, times_of, IsVerdictTimed, IsVerdictOfKnown, IsVerdictBy, order_of, order_by, calls_order_by}
 use Rattle.pst_judge.specs.InOrder.{IsRunInOrder, IsVerdictInOrder}
 use Rattle.pst_judge.specs.InTime.{command_at, AreInTurn, AreTimesOf, IsMergeInTime}
 use Rattle.pst_judge.specs.RealTime.{call_in, count_of, AreLengths, IsTimely, AreTimely, real_time}
 use Rattle.pst_judge.specs.Replay.{post_asked, branch_lengths}
+use Rattle.pst_judge.specs.Unknown.{IsVerdictWithUnknown}
 use Rattle.pst_judge.specs.declared.by_order.CallOrder.{CallOrder}
 use Rattle.pst_judge.specs.declared.by_order.CallOrder.TheVariants.{Any, Time}
 use Rattle.pst_judge.specs.declared.judgement.Verdict.{Verdict}
 use Rattle.pst_model.specs.declared.model.Source.{Source}
 
 -- the three parts of what fits
-parts : (n : ℕ) (ns : List ℕ) (calls : List CallTime) (times : List (List CallTime)) → fit (n ∷ ns) (calls ∷ times) ≡ true
+pub parts : (n : ℕ) (ns : List ℕ) (calls : List CallTime) (times : List (List CallTime)) → fit (n ∷ ns) (calls ∷ times) ≡ true
     → (length calls ≡ n) × (are_in_turn calls ≡ true) × (fit ns times ≡ true)
 unfolding fit
 parts n ns calls times h =
@@ -30,11 +32,11 @@ parts n ns calls times h =
     let q = and_parts _ _ p.0 in
     (eqb-true (length calls) n q.0, q.1, p.1)
 
-none_left : (calls : List CallTime) (times : List (List CallTime)) → fit [] (calls ∷ times) ≡ true → ⊥
+pub none_left : (calls : List CallTime) (times : List (List CallTime)) → fit [] (calls ∷ times) ≡ true → ⊥
 unfolding fit
 none_left calls times h = cc
 
-some_left : (n : ℕ) (ns : List ℕ) → fit (n ∷ ns) [] ≡ true → ⊥
+pub some_left : (n : ℕ) (ns : List ℕ) → fit (n ∷ ns) [] ≡ true → ⊥
 unfolding fit
 some_left n ns h = cc
 
@@ -76,7 +78,7 @@ lengths_of (n ∷ ns) [] h b = absurd (some_left n ns h)
 lengths_of (n ∷ ns) (calls ∷ times) h zero = sym (parts n ns calls times h).0
 lengths_of (n ∷ ns) (calls ∷ times) h (suc b) = lengths_of ns times (parts n ns calls times h).2 b
 
-all_timely : (ns : List ℕ) (times : List (List CallTime)) → fit ns times ≡ true → AreTimely times
+pub all_timely : (ns : List ℕ) (times : List (List CallTime)) → fit ns times ≡ true → AreTimely times
 all_timely ns [] h b i x e = absurd (cc)
 all_timely [] (calls ∷ times) h b i x e = absurd (none_left calls times h)
 all_timely (n ∷ ns) (calls ∷ times) h zero i x e = timely_in calls (parts n ns calls times h).1 i x e
@@ -121,6 +123,16 @@ module _ (m : Source) (c : Case) (h : History) (v : Verdict) where
       same_verdict m (post_asked m) c h (IsRunInOrder (real_time times) c) (IsMergeInTime times (branch_lengths c))
       (order_to_time (branch_lengths c) times are) (time_to_order (branch_lengths c) times are) v is
 
-  pub verdict_by_order : (order : CallOrder) → IsVerdictInOrder m (order_by order c h) c h v → IsVerdictBy order m c h v
+  pub verdict_by_order : (order : CallOrder) → IsVerdictInOrder m (order_by order c h) c h v → IsVerdictOfKnown order m c h v
   verdict_by_order Any is = any_to_verdict m (post_asked m) c h v is
   verdict_by_order Time is = timed (times_of c h) refl is
+
+  abbrev ByOutcomes : CallOrder → Bool → Type 0
+  ByOutcomes order b = MatchBool b (IsVerdictWithUnknown m (calls_order_by order h) c h v) (IsVerdictOfKnown order m c h v)
+
+  -- without calls of unknown outcome, and with some
+  pub verdict_of_known : (order : CallOrder) → has_unknown h ≡ false → IsVerdictInOrder m (order_by order c h) c h v → IsVerdictBy order m c h v
+  verdict_of_known order known is = subst (ByOutcomes order) (sym known) (verdict_by_order order is)
+
+  pub verdict_with_some : (order : CallOrder) → has_unknown h ≡ true → IsVerdictWithUnknown m (calls_order_by order h) c h v → IsVerdictBy order m c h v
+  verdict_with_some order some is = subst (ByOutcomes order) (sym some) is

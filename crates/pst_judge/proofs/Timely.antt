@@ -3,7 +3,7 @@ use Rattle.std.proofs.Common.{◌≡◌, ℕ, zero, suc, ◌<◌, ◌≤◌, ◌
 use Rattle.std.proofs.lemmas.Bool.{cases_lt}
 use Rattle.std.proofs.lemmas.Bool.Decides.{nat_tests}
 use Rattle.std.proofs.lemmas.Option.{get_or_from_slice_get, slice_get-get_or, slice_get_cases}
-use Rattle.std.specs.Prelude.{slice_get}
+use Rattle.std.specs.Prelude.{slice_get, slice_index}
 use Rattle.pst_grid.specs.Completions.{IsAt}
 use Rattle.pst_grid.specs.Orders.{IsOpen}
 use Rattle.pst_judge.specs.RealTime.{is_over, precedes, call_in, next_of, one_precedes, some_precedes, may_come, real_time, count_of, AreLengths, IsTimely, AreTimely, RealTimeNeverBlocks}
@@ -98,22 +98,28 @@ later-over x y timely later = by x.completed refl timely
     by None e h = refl
     by (Some t) e h = let k : y.invoked ≤ t = omega arith in grind (arith, nat_tests)
 
-module _ (branches : List (List CallTime)) (lengths : List ℕ) (are : AreLengths branches lengths) (timely : AreTimely branches) (done : List ℕ) (at : IsAt lengths done) where
-  -- a branch that has a command left has a next one
-  next-command : (b : ℕ) → get_or done b 0 < get_or lengths b 0 → (x : CallTime) × (next_of branches done b ≡ Some x) × (b < length branches)
-  next-command b left = by (slice_get branches b) refl
-    where
-      i : slice_get done b ≡ Some (get_or done b 0)
-      i = slice_get-get_or done b 0 (IsAt-branch lengths done b at left)
+-- the times are of these branches, or of the first of them
+abbrev pub AreLengthsOfFirst : List (List CallTime) → List ℕ → Type 0
+AreLengthsOfFirst branches lengths = (b : ℕ) (v : List CallTime) → slice_get branches b ≡ Some v → slice_index lengths b ≡ length v
 
-      by : (o : Option (List CallTime)) → slice_get branches b ≡ o → (x : CallTime) × (next_of branches done b ≡ Some x) × (b < length branches)
-      by None e = let q = are b ∙ ap count_of e in absurd (omega arith)
-      by (Some v) e =
-          let q : get_or lengths b 0 ≡ length v = are b ∙ ap count_of e in
-          elim ((slice_get_cases v (get_or done b 0)).1) [
-            | inl p ↦ (p.0, ap (λ o. call_in o (slice_get done b)) e ∙ ap (λ o. call_in (Some v) o) i ∙ p.2, get_below branches b v e)
-            | inr p ↦ absurd (omega (arith, p.0))
-          ]
+module _ (branches : List (List CallTime)) (lengths : List ℕ) (are : AreLengthsOfFirst branches lengths) (timely : AreTimely branches) (done : List ℕ) (at : IsAt lengths done) where
+  -- a branch that has times and a command left has a next one
+  next-command : (b : ℕ) (v : List CallTime) → slice_get branches b ≡ Some v → get_or done b 0 < get_or lengths b 0 → (x : CallTime) × (next_of branches done b ≡ Some x) × (b < length branches)
+  next-command b v e left =
+      let i : slice_get done b ≡ Some (get_or done b 0) = slice_get-get_or done b 0 (IsAt-branch lengths done b at left) in
+      let q : get_or lengths b 0 ≡ length v = are b v e in
+      elim ((slice_get_cases v (get_or done b 0)).1) [
+        | inl p ↦ (p.0, ap (λ o. call_in o (slice_get done b)) e ∙ ap (λ o. call_in (Some v) o) i ∙ p.2, get_below branches b v e)
+        | inr p ↦ absurd (omega (arith, p.0))
+      ]
+
+  -- a branch that has a next one has times
+  next-below : (b : ℕ) (x : CallTime) → next_of branches done b ≡ Some x → b < length branches
+  next-below b x h = by (slice_get branches b) refl
+    where
+      by : (o : Option (List CallTime)) → slice_get branches b ≡ o → b < length branches
+      by None e = let q : None ≡ Some x = sym (ap (λ o. call_in o (slice_get done b)) e) ∙ h in cc
+      by (Some v) e = get_below branches b v e
 
   -- and a branch that has a next one has it left; no next one completed before it was invoked
   next-left : (b : ℕ) (x : CallTime) → next_of branches done b ≡ Some x → (get_or done b 0 < get_or lengths b 0) × IsTimely x
@@ -126,15 +132,20 @@ module _ (branches : List (List CallTime)) (lengths : List ℕ) (are : AreLength
           let q : slice_get v i ≡ Some x = sym (ap (λ o. call_in o (slice_get done b)) e ∙ ap (λ o. call_in (Some v) o) f) ∙ h in
           let l = get_below v i x q in
           let same : get_or done b 0 ≡ i = get_or_from_slice_get done b i 0 f in
-          let n : get_or lengths b 0 ≡ length v = are b ∙ ap count_of e in
+          let n : get_or lengths b 0 ≡ length v = are b v e in
           (omega arith, timely b i x (ap (λ o. call_in o (Some i)) e ∙ q))
 
-  open_one : (b : ℕ) → get_or done b 0 < get_or lengths b 0 → (c : ℕ) × IsOpen (real_time branches) lengths done c
-  open_one b left = by (earliest (next_of branches done) (length branches))
+  -- a branch with times is open, or this one has none and is
+  pub open_one : (b : ℕ) → get_or done b 0 < get_or lengths b 0 → (c : ℕ) × IsOpen (real_time branches) lengths done c × ((c < length branches) ⊎ (c ≡ b))
+  open_one b left = first_of (slice_get branches b) refl
     where
-      by : Earliest (next_of branches done) (length branches) ⊎ ((c : ℕ) (x : CallTime) → c < length branches → next_of branches done c ≡ Some x → ⊥)
-          → (c : ℕ) × IsOpen (real_time branches) lengths done c
-      by (inl p) = (p.branch, ((next-left p.branch p.command p.is).0, ap (may_come (next_of branches done) (length branches)) p.is ∙ ap not (precedes-none (next_of branches done) (length branches) p.command none)))
+      by : (v : List CallTime) → slice_get branches b ≡ Some v → Earliest (next_of branches done) (length branches) ⊎ ((c : ℕ) (x : CallTime) → c < length branches → next_of branches done c ≡ Some x → ⊥)
+          → (c : ℕ) × IsOpen (real_time branches) lengths done c × ((c < length branches) ⊎ (c ≡ b))
+      by v e (inl p) = (
+        p.branch,
+        ((next-left p.branch p.command p.is).0, ap (may_come (next_of branches done) (length branches)) p.is ∙ ap not (precedes-none (next_of branches done) (length branches) p.command none)),
+        inl (next-below p.branch p.command p.is),
+      )
         where
           one : (c : ℕ) (o : Option CallTime) → c < length branches → next_of branches done c ≡ o → one_precedes o p.command ≡ false
           one c None l e = refl
@@ -142,7 +153,12 @@ module _ (branches : List (List CallTime)) (lengths : List ℕ) (are : AreLength
 
           none : (c : ℕ) → c < length branches → one_precedes (next_of branches done c) p.command ≡ false
           none c l = one c (next_of branches done c) l refl
-      by (inr none) = let n = next-command b left in absurd (none b n.0 n.2 n.1)
+      by v e (inr none) = let n = next-command b v e left in absurd (none b n.0 n.2 n.1)
+
+      first_of : (o : Option (List CallTime)) → slice_get branches b ≡ o → (c : ℕ) × IsOpen (real_time branches) lengths done c × ((c < length branches) ⊎ (c ≡ b))
+      first_of None e = (b, (left, ap (λ o. may_come (next_of branches done) (length branches) (call_in o (slice_get done b))) e), inr refl)
+      first_of (Some v) e = by v e (earliest (next_of branches done) (length branches))
 
 pub real-time-never-blocks : RealTimeNeverBlocks
-real-time-never-blocks branches lengths are timely done at b left = open_one branches lengths are timely done at b left
+real-time-never-blocks branches lengths are timely done at b left =
+    let open_now = open_one branches lengths (λ b v e. are b ∙ ap count_of e) timely done at b left in (open_now.0, open_now.1)

@@ -1,6 +1,7 @@
 -- The verdict over all interleavings, or over those in the order of the recorded times.
-use Rattle.std.specs.Prelude.{ℕ, Bool, if◌then◌else◌, List, Option, Some, None}
+use Rattle.std.specs.Prelude.{ℕ, Bool, MatchBool, if◌then◌else◌, List, Option, Some, None}
 use Rattle.pst_case.specs.Times.{fit}
+use Rattle.pst_case.specs.Unknown.{has_unknown, times_of_calls}
 use Rattle.pst_case.specs.declared.case.Case.{Case}
 use Rattle.pst_case.specs.declared.history.CallTime.{CallTime}
 use Rattle.pst_case.specs.declared.history.History.{History}
@@ -8,6 +9,7 @@ use Rattle.pst_grid.specs.Orders.{any_order}
 use Rattle.pst_judge.specs.InTime.{IsVerdictInTime}
 use Rattle.pst_judge.specs.RealTime.{real_time}
 use Rattle.pst_judge.specs.Replay.{branch_lengths}
+use Rattle.pst_judge.specs.Unknown.{IsVerdictWithUnknown}
 use Rattle.pst_judge.specs.Verdict.{IsVerdict}
 use Rattle.pst_judge.specs.declared.by_order.CallOrder.{CallOrder}
 use Rattle.pst_judge.specs.declared.by_order.CallOrder.TheVariants.{Any, Time}
@@ -27,10 +29,10 @@ abbrev pub IsVerdictTimed : Source → Case → History → Option (List (List C
 IsVerdictTimed m c h None = IsVerdict m c h
 IsVerdictTimed m c h (Some times) = IsVerdictInTime m times c h
 
--- the verdict by an order of the calls: over all interleavings, or over those in order of the recorded times
-abbrev pub IsVerdictBy : CallOrder → Source → Case → History → Verdict → Type 0
-IsVerdictBy Any m c h = IsVerdict m c h
-IsVerdictBy Time m c h = IsVerdictTimed m c h (times_of c h)
+-- without calls of unknown outcome: over all interleavings, or over those in order of the recorded times
+abbrev pub IsVerdictOfKnown : CallOrder → Source → Case → History → Verdict → Type 0
+IsVerdictOfKnown Any m c h = IsVerdict m c h
+IsVerdictOfKnown Time m c h = IsVerdictTimed m c h (times_of c h)
 
 -- ---- the order itself, for the search
 
@@ -41,3 +43,17 @@ order_of (Some times) = real_time times
 abbrev pub order_by : CallOrder → Case → History → List ℕ → ℕ → Bool
 order_by Any c h = any_order
 order_by Time c h = order_of (times_of c h)
+
+-- the order of the calls of a history in which some have an unknown outcome
+abbrev pub calls_order_by : CallOrder → History → List ℕ → ℕ → Bool
+calls_order_by Any h = any_order
+calls_order_by Time h = order_of (times_of_calls h)
+
+-- ---- the verdict
+
+-- the verdict by an order of the calls
+abbrev pub IsVerdictBy : CallOrder → Source → Case → History → Verdict → Type 0
+IsVerdictBy order m c h v =
+    MatchBool (has_unknown h)
+    (IsVerdictWithUnknown m (calls_order_by order h) c h v)
+    (IsVerdictOfKnown order m c h v)

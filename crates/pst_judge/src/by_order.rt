@@ -1,8 +1,11 @@
 //! Verdicts over all interleavings, or over those in the order of the recorded times.
-ghost use Rattle.std.specs.Prelude.{◌≡◌, true, IfOk, option_copied};
+ghost use Rattle.std.specs.Prelude.{◌≡◌, true, false, IfOk, option_copied};
 ghost use Rattle.pst_case.specs.Matches.{matches};
 ghost use Rattle.pst_grid.specs.Orders.{NeverBlocks};
-ghost use Rattle.pst_judge.specs.ByOrder.{IsVerdictBy, order_by, order_of, times_of};
+ghost use Rattle.pst_case.specs.Unknown.{has_unknown};
+ghost use Rattle.pst_judge.specs.ByOrder.{IsVerdictBy, IsVerdictOfKnown, calls_order_by, order_by, order_of, times_of};
+ghost use Rattle.pst_judge.specs.Unknown.{IsVerdictWithUnknown, calls_order};
+ghost use Rattle.pst_judge.specs.UnknownCalls.{column_lengths};
 ghost use Rattle.pst_judge.specs.Real.{FaultsOnlyInPost};
 ghost use Rattle.pst_judge.specs.Judgement.{HistoryMatches, IsJudgementBy};
 ghost use Rattle.pst_judge.specs.Replay.{branch_lengths};
@@ -12,7 +15,9 @@ ghost use Rattle.pst_model.specs.WellTyped.{WellModel};
 use crate::judgement::{Judged, Verdict, judge_case};
 use crate::judging::verdict_in_order;
 use crate::real_time::RealTime;
+use crate::replay::Postconditions;
 use crate::search::count_commands_in_each_branch;
+use crate::unknown::verdict_with_unknown;
 use pst_case::{CallTime, History, Run, Shaped, do_times_fit};
 use pst_eval::Callbacks;
 use pst_grid::Order;
@@ -88,13 +93,31 @@ impl<'a> RecordedOrder<'a> {
         };
         Ok(RecordedOrder { times })
     }
+
+    /// Returns the order in which the calls of a history count in which some have an unknown outcome. `AllocError` means
+    /// that an allocation failed.
+    pub fn of_calls(
+        alloc: Global,
+        order: CallOrder,
+        history: &'a History,
+    ) -> Result<RecordedOrder<'a>, AllocError>
+        ensures order { IfOk result (λ recorded.
+            ⟦<RecordedOrder<'a> as Order>⟧.order recorded ≡ calls_order_by order history.now) }
+    {
+        let times = match order {
+            CallOrder::Any => None,
+            CallOrder::Time => history.times_of_calls(alloc)?,
+        };
+        Ok(RecordedOrder { times })
+    }
 }
 
 /// Returns the verdict on a history of a case, over all interleavings or over those in the order of its times, by the
 /// model of the callbacks.
 ///
 /// It is [`crate::verdict`] where only the interleavings in order count. Times that are not one for each command of the
-/// branches are left aside. `AllocError` means that an allocation failed.
+/// branches are left aside. If a call has an unknown outcome, it is [`crate::verdict_with_unknown`], and only without such
+/// calls a valid case faults in `post` alone. `AllocError` means that an allocation failed.
 pub fn verdict_by<C: Callbacks>(
     callbacks: &C,
     order: CallOrder,
@@ -105,9 +128,21 @@ pub fn verdict_by<C: Callbacks>(
     requires model { shaped.now.model ≡ C.model callbacks.now }
     requires matches { matches (C.model callbacks.now) shaped.now.case history.now ≡ true }
     ensures verdict { IfOk result (IsVerdictBy order (C.model callbacks.now) shaped.now.case history.now) }
-    ensures faults { IfOk result (λ v. WellModel (C.model callbacks.now)
+    ensures faults { IfOk result (λ v. has_unknown history.now ≡ false → WellModel (C.model callbacks.now)
         → IsValid (C.model callbacks.now) shaped.now.case → FaultsOnlyInPost v) }
 {
+    if history.has_unknown() {
+        let _case = shaped.case();
+        let recorded = RecordedOrder::of_calls(alloc, order, history)?;
+        return verdict_with_unknown(
+            callbacks,
+            &Postconditions,
+            &recorded,
+            alloc,
+            shaped,
+            history,
+        );
+    }
     let recorded = RecordedOrder::new(alloc, order, shaped, history)?;
     verdict_in_order(callbacks, &recorded, alloc, shaped, history)
 }

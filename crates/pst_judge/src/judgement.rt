@@ -85,7 +85,8 @@ impl Judged {
 #[derive(Debug, PartialEq, Eq, Drop)]
 pub enum Verdict {
     /// The first interleaving of the branches in which every event is true, from the prefix to the end of the suffix:
-    /// the numbers of its branches, from 0.
+    /// the numbers of its branches, from 0. With calls of unknown outcome it has the letters of
+    /// [`crate::verdict_with_unknown`].
     Explained(Vec<usize>),
     /// In no interleaving is every event true. The first interleaving that faults does so here.
     Faulted(FaultPlace),
@@ -130,13 +131,15 @@ impl Verdict {
     }
 }
 
-/// A list of branch numbers, from 0. It is printed as a letter for each number, and the empty list as `-`.
+/// A list of branch numbers, from 0, of 4 for a call of unknown outcome in the prefix, and of 5 for a command of the suffix.
+/// It is printed as a letter for each number, and the empty list as `-`.
 #[derive(Clone, Copy, Drop)]
 pub struct InterleavingText<'a> {
     pub branches: &'a [usize],
 }
 
-/// Returns the letter of branch `branch`, counted from 0.
+/// Returns the letter of branch `branch`, counted from 0, of the call of unknown outcome in the prefix, 4, or of a command
+/// of the suffix, 5.
 fn branch_letter(branch: usize) -> &'static str
     ensures { result.now ≡ letter branch ∷ [] }
 {
@@ -144,7 +147,9 @@ fn branch_letter(branch: usize) -> &'static str
         0 => "L",
         1 => "R",
         2 => "S",
-        _ => "T",
+        3 => "T",
+        4 => "P",
+        _ => ".",
     }
 }
 

@@ -133,8 +133,8 @@ fn reason_of_answer(answer: EveryAnswer<SymbolicFailure>) -> Option<Why>
 }
 
 /// The sum of the lengths.
-fn sum_of_branch_lengths(lengths: &[usize]) -> usize
-    requires { sum lengths.now ≤ 16 }
+pub(crate) fn sum_of_branch_lengths(lengths: &[usize]) -> usize
+    requires { sum lengths.now ≤ 88 }
     ensures { result ≡ sum lengths.now }
 {
     match lengths.split_first() {

@@ -79,6 +79,10 @@ impl<'a> StepLimitedCommandRecorder<'a> {
 impl<'a> Callbacks for StepLimitedCommandRecorder<'a> {
     ghost model = { λ b. b.limited.callbacks.now };
 
+    fn next_names_result(&self, op: u32) -> bool {
+        self.limited.next_names_result(op)
+    }
+
     fn init(&self, alloc: Global) -> Answer {
         self.limited.note_and_fail_if_out_of_steps()?;
         self.clear_commands(alloc);

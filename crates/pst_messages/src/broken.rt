@@ -1,7 +1,7 @@
 //! Why recorded runs are broken.
 
 use crate::json_input::ItemInput;
-use pst_explain::broken_reply_sentence_of_run;
+use pst_explain::breaking_call_sentence_of_run;
 use pst_judge::{Judged, Verdict};
 use pst_model::Typed;
 use pst_rejudge::ItemResult;
@@ -95,14 +95,14 @@ fn broken_item_sentence(
         return Ok(None);
     };
     match runs.first() {
-        Some(run) => broken_reply_sentence_of_run(alloc, typed, run, command),
+        Some(run) => breaking_call_sentence_of_run(alloc, typed, run, command),
         None => Ok(None),
     }
 }
 
-/// The note on a reply that says that the outcome of a call is unknown.
+/// The note on a reply by which clients of other tools say that the outcome of a call is unknown.
 const UNKNOWN_OUTCOME: &str =
-    "each call has one known outcome: one that may or may not have happened, as after a timeout, fits no run";
+    "hint: if nobody knows whether the call took effect, as after a timeout, its reply is `unknown` (in JSON `{\"unknown\":null}`)";
 
 /// The message on the first broken item, and how many others there are.
 fn first_broken_item_and_count_message(

@@ -17,6 +17,12 @@ type FoundFault = Result<Option<ByteFault>, AllocError>;
 /// How a call is written.
 const CALL: &str = "a call is an array: `[\"OPERATION\", VALUE, ..]`";
 
+/// What the replies are.
+const REPLIES: &str = "the replies are arrays in an array, one for each part";
+
+/// What the times are.
+const TIMES: &str = "the times are arrays in an array, one for each branch";
+
 /// The note on an array of calls in the place of one call.
 const CALLS: &str = "hint: a branch is an array of calls: `[[[\"inc\"]],[[\"get\"]]]`";
 
@@ -120,14 +126,13 @@ fn json_branches_fault(alloc: Global, line: &[u8], branches: Span) -> FoundFault
     Ok(None)
 }
 
-/// The fault of the replies, if they are no array of arrays.
-fn json_replies_fault(alloc: Global, line: &[u8], replies: Span) -> FoundFault {
-    let what = "the replies are arrays in an array, one for each part";
-    if !is_json_array_at(line, replies) {
-        return wrong_json_value_fault(alloc, line, replies, what, "");
+/// The fault of the replies or the times, if they are no array of arrays. `what` says what they are.
+fn json_array_of_arrays_fault(alloc: Global, line: &[u8], lists: Span, what: &str) -> FoundFault {
+    if !is_json_array_at(line, lists) {
+        return wrong_json_value_fault(alloc, line, lists, what, "");
     }
-    let mut parts = JsonPartCursor::of(replies);
-    for _ in replies.start..replies.end {
+    let mut parts = JsonPartCursor::of(lists);
+    for _ in lists.start..lists.end {
         match parts.next(line) {
             Some(list) if !is_json_array_at(line, list) => {
                 return wrong_json_value_fault(alloc, line, list, what, "");
@@ -141,13 +146,14 @@ fn json_replies_fault(alloc: Global, line: &[u8], replies: Span) -> FoundFault {
 
 /// The fault of the member `name`, whose key is at `key`. No item has such a member.
 fn unknown_json_member_fault(alloc: Global, name: &str, key: Span) -> FoundFault {
-    let what = format_args!("unknown member `{name}`: prefix, branches, suffix, replies");
+    let what = format_args!("unknown member `{name}`: prefix, branches, suffix, replies, times");
     let fault = ByteFault::new(alloc, key, what)?;
     let near = NearestNameSoFar::without_candidates(name)
         .or_nearer_candidate(alloc, "prefix", name)?
         .or_nearer_candidate(alloc, "branches", name)?
         .or_nearer_candidate(alloc, "suffix", name)?
-        .or_nearer_candidate(alloc, "replies", name)?;
+        .or_nearer_candidate(alloc, "replies", name)?
+        .or_nearer_candidate(alloc, "times", name)?;
     match near.hint() {
         Some(hint) => Ok(Some(fault.with_note(alloc, hint)?)),
         None => Ok(Some(fault)),
@@ -159,7 +165,8 @@ fn json_member_fault(alloc: Global, line: &[u8], name: &str, key: Span, value: S
     match name {
         "prefix" | "suffix" => json_prefix_or_suffix_fault(alloc, line, value),
         "branches" => json_branches_fault(alloc, line, value),
-        "replies" => json_replies_fault(alloc, line, value),
+        "replies" => json_array_of_arrays_fault(alloc, line, value, REPLIES),
+        "times" => json_array_of_arrays_fault(alloc, line, value, TIMES),
         _ => unknown_json_member_fault(alloc, name, key),
     }
 }

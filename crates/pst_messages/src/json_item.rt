@@ -105,6 +105,11 @@ fn hint_on_json_object(object: &str, before: &str) -> Option<&'static str> {
     if object.starts_with("{\"failed\":") {
         return Some("hint: a call that failed is `{\"failed\":null}`");
     }
+    if object.starts_with("{\"unknown\":") {
+        return Some(
+            "hint: a call of which nobody knows whether it took effect is `{\"unknown\":null}`",
+        );
+    }
     match expected_type_in_message(before) {
         Some(ty) => hint_on_json_spelling_of_type(ty),
         None => Some("hint: an object is a map, which only a `model2` has"),

@@ -5,11 +5,10 @@ use Rattle.pst_case.specs.declared.case.Case.{Case}
 use Rattle.pst_case.specs.declared.history.CallTime.{CallTime}
 use Rattle.pst_case.specs.declared.history.History.{History}
 use Rattle.pst_judge.proofs.ByOrder.{times_fit, fitting_fit}
-use Rattle.pst_judge.proofs.InOrder.{merge_in_any_order, same_verdict}
-use Rattle.pst_judge.proofs.InTime.{order_to_time, time_to_order}
-use Rattle.pst_judge.specs.ByOrder.{order_of, times_of, IsVerdictBy, IsVerdictTimed}
+use Rattle.pst_judge.proofs.InOrder.{merge_in_any_order}
+use Rattle.pst_judge.specs.ByOrder.{order_by, order_of, times_of}
 use Rattle.pst_judge.specs.InOrder.{IsRunInOrder, IsVerdictInOrder, IsVerdictOfAmong}
-use Rattle.pst_judge.specs.InTime.{AreTimesOf, IsMergeInTime}
+use Rattle.pst_judge.specs.InTime.{AreTimesOf}
 use Rattle.pst_judge.specs.OrderLaws.{IsExplained}
 use Rattle.pst_judge.specs.RealTime.{real_time}
 use Rattle.pst_judge.specs.Replay.{post_asked, branch_lengths}
@@ -90,11 +89,8 @@ module _ (m : Source) (c : Case) (h : History) where
     pub fitting_times : AreTimesOf (branch_lengths c) times
     fitting_times = times_fit (branch_lengths c) times (fitting_fit (branch_lengths c) h.times times fitting)
 
-    pub in_time : (v : Verdict) → IsVerdictBy Time m c h v → IsVerdictInOrder m (real_time times) c h v
-    in_time v is =
-        same_verdict m (post_asked m) c h (IsMergeInTime times (branch_lengths c)) (IsRunInOrder (real_time times) c)
-        (time_to_order (branch_lengths c) times fitting_times) (order_to_time (branch_lengths c) times fitting_times) v
-        (subst (λ o. IsVerdictTimed m c h o v) fitting is)
+    pub in_time : (v : Verdict) → IsVerdictInOrder m (order_by Time c h) c h v → IsVerdictInOrder m (real_time times) c h v
+    in_time v is = subst (λ o. IsVerdictInOrder m (order_of o) c h v) fitting is
 
     -- one in the order of time explains the run
     pub explained_in_time : IsExplainedIn m (real_time times) c h → HasNoObstacle m c h

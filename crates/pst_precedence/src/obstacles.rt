@@ -11,7 +11,7 @@ use crate::precedence::Precedence;
 use crate::timed::{TimedRun, is_explained_in_time, is_explained_keeping};
 use pst_case::{History, Shaped};
 use pst_eval::Callbacks;
-use pst_judge::{CallOrder, Verdict, fitting_times, verdict_by};
+use pst_judge::{Verdict, fitting_times, verdict};
 use std::alloc::{AllocError, Global};
 
 /// What rules out an explanation of a run.
@@ -85,8 +85,7 @@ fn explaining_interleaving<C: Callbacks>(
     ensures { let m = C.model callbacks.now in let c = shaped.now.case in IfOk result (λ found. MatchOption found
         (HasNoObstacle m c history.now) (λ word. IsVerdict m c history.now (Explained word))) }
 {
-    let verdict = verdict_by(callbacks, CallOrder::Any, alloc, shaped, history)?;
-    match verdict {
+    match verdict(callbacks, alloc, shaped, history)? {
         Verdict::Explained(word) => Ok(Some(word)),
         Verdict::Faulted(_) | Verdict::Unexplained(_) | Verdict::Broken(_) => Ok(None),
     }

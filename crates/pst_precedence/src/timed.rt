@@ -10,7 +10,7 @@ use crate::keeping::Keeping;
 use crate::precedence::Precedence;
 use pst_case::{CallTime, History, Shaped};
 use pst_eval::Callbacks;
-use pst_judge::{CallOrder, Verdict, verdict_by, verdict_in_order};
+use pst_judge::{CallOrder, RecordedOrder, Verdict, verdict_in_order};
 use pst_value::Items;
 use std::alloc::{AllocError, Global};
 
@@ -57,12 +57,7 @@ pub(crate) fn is_explained_in_time<C: Callbacks>(run: &TimedRun<'_, C>) -> Resul
     ensures { let r = run.now in IfOk result (IsWhetherExplained (C.model r.callbacks.now)
         (real_time r.times.now) r.shaped.now.case r.history.now) }
 {
-    let verdict = verdict_by(
-        run.callbacks,
-        CallOrder::Time,
-        run.alloc,
-        run.shaped,
-        run.history,
-    )?;
+    let recorded = RecordedOrder::new(run.alloc, CallOrder::Time, run.shaped, run.history)?;
+    let verdict = verdict_in_order(run.callbacks, &recorded, run.alloc, run.shaped, run.history)?;
     Ok(is_explained(&verdict))
 }

@@ -4,7 +4,7 @@ use Rattle.std.specs.Prelude.{reverse, if◌then◌else◌}
 use Rattle.std.proofs.lemmas.Slice.Eq.{bytes_eq-Decides}
 use Rattle.pst_reasons.proofs.OneAnswer.{decided}
 use Rattle.pst_reasons.proofs.Posts.{post_is}
-use Rattle.pst_reasons.proofs.Unnamed.{ignores_result}
+use Rattle.pst_eval.proofs.Unnamed.{ignores_result}
 use Rattle.pst_reasons.specs.Allowed.{is_right, or_false}
 use Rattle.pst_reasons.specs.Equality.{IsEquality, HasEquality, EqualityHasOneAnswer}
 use Rattle.pst_eval.specs.Callbacks.{at_names, max_turns}

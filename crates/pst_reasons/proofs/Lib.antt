@@ -6,6 +6,5 @@ pub mod Rising
 pub mod Posts
 pub mod OneAnswer
 pub mod Asking
-pub mod Unnamed
 pub mod Equality
 pub mod Along

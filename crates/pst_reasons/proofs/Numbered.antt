@@ -6,7 +6,7 @@ use Rattle.pst_case.specs.declared.case.Case.{Case}
 use Rattle.pst_case.specs.declared.case.Command.{Command}
 use Rattle.pst_case.specs.declared.history.History.{History}
 use Rattle.pst_case.specs.declared.history.Reply.{Reply}
-use Rattle.pst_case.specs.declared.history.Reply.TheVariants.{Value as Answered, Misfit, Failed, NotRun}
+use Rattle.pst_case.specs.declared.history.Reply.TheVariants.{Value as Answered, Misfit, Failed, NotRun, Unknown}
 use Rattle.pst_judge.specs.Replay.{part_events, branches_events, prefix_events, branch_events, suffix_events}
 use Rattle.pst_judge.specs.declared.events.Event.{Event}
 use Rattle.pst_reasons.proofs.Fewer.{EachEvent, EachOfBranches}
@@ -30,6 +30,7 @@ module _ (last : ℕ) (results : List (Option Value)) where
   part_up_to number (c ∷ cs) (Misfit ∷ rs) low high = tt
   part_up_to number (c ∷ cs) (Failed ∷ rs) low high = tt
   part_up_to number (c ∷ cs) (NotRun ∷ rs) low high = tt
+  part_up_to number (c ∷ cs) (Unknown ∷ rs) low high = tt
 
   branches_up_to : (number : ℕ) (bs : List (List Command)) (rs : List (List Reply)) → 1 ≤ number → number + length (joined bs) ≤ suc last → EachOfBranches (IsUpTo last) (branches_events results number bs rs)
   branches_up_to number [] rs low high b i e h = absurd (cc)

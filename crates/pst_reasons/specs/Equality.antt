@@ -10,7 +10,7 @@ use Rattle.pst_model.specs.declared.expr.Expr.{Expr, Binary, Name}
 use Rattle.pst_model.specs.declared.model.Op.{Op}
 use Rattle.pst_model.specs.declared.model.Source.{Source}
 use Rattle.pst_reasons.specs.Allowed.{IsEvent, HasOneAnswer}
-use Rattle.pst_reasons.specs.Names.{names}
+use Rattle.pst_eval.specs.Names.{names}
 
 -- `(= r e)` or `(= e r)`
 abbrev pub IsEquality : Expr → Expr → Type 0

@@ -2,6 +2,5 @@
 pub mod Reasons
 pub mod Allowed
 pub mod Equality
-pub mod Names
 pub mod States
 pub mod Answered

@@ -58,7 +58,7 @@ impl<'a> Condition for SomePostconditions<'a> {
 
 /// Checks whether `answer` would be right for command `number`, and whether the recorded answers of `others` are right.
 #[derive(Clone, Copy, Drop)]
-pub(crate) struct AnswerReplaced<'a> {
+pub struct AnswerReplaced<'a> {
     pub model: &'a Source,
     pub number: u32,
     pub answer: &'a Value,
@@ -69,7 +69,7 @@ pub(crate) struct AnswerReplaced<'a> {
 /// Checks whether none of `answers` would be right for command `number`, and whether the recorded answers of `others`
 /// are right.
 #[derive(Clone, Copy, Drop)]
-pub(crate) struct AnswersExcluded<'a> {
+pub struct AnswersExcluded<'a> {
     pub model: &'a Source,
     pub number: u32,
     pub answers: &'a [Value],

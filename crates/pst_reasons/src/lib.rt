@@ -17,7 +17,7 @@ pub use allowing::{
     AllowedValues, AnswerProposer, AnswerQuestion, find_allowed_values,
     interleaving_where_answers_are_wrong, is_answer_allowed,
 };
-pub use conditions::SomePostconditions;
+pub use conditions::{AnswerReplaced, AnswersExcluded, SomePostconditions};
 pub use cores::{append_numbers_without, count_branch_commands, minimal_core};
 pub use laws::{any_order_has_each_merge, equality_has_one_answer};
 pub use pst_grid::{AnyOrder, Order};

@@ -1,64 +1,69 @@
--- Runs that are read of trees, and of more trees behind them.
-use Rattle.std.proofs.Common.{◌≡◌, ◌∙◌, ℕ, ◌+◌, List, [], ◌∷◌, ◌++◌, Result, Ok, Err, ap, refl, subst, sym, append-nil}
-use Rattle.std.specs.List.{AllZip, flat_map}
+-- The answers to the items of trees, and to those of more trees behind them.
+use Rattle.std.proofs.Common.{◌≡◌, ◌∙◌, ℕ, Bool, List, [], ◌∷◌, ◌++◌, Option, ap, refl, subst, sym, append-nil}
+use Rattle.std.proofs.lemmas.Grind.{flat_map-append}
+use Rattle.std.specs.List.{AllZip}
 use Rattle.pst_case.specs.declared.history.Run.{Run}
+use Rattle.pst_judge.specs.declared.by_order.CallOrder.{CallOrder}
 use Rattle.pst_model.specs.declared.model.Source.{Source}
 use Rattle.pst_rejudge.proofs.Joined.{joined}
-use Rattle.pst_rejudge.specs.Parts.{EndsLine, AreParts, last, before, SpellsRuns}
-use Rattle.pst_runs.specs.Items.{item_of, numbered, runs_from}
-use Rattle.pst_runs.specs.Replies.{◌>>=◌, then_more}
-use Rattle.pst_runs.specs.declared.reader.ItemFault.{ItemFault}
-use Rattle.pst_runs.specs.declared.reader.RunFault.{RunFault}
+use Rattle.pst_rejudge.specs.Answers.{IsAnswer, spelled_run}
+use Rattle.pst_rejudge.specs.Parts.{AreAnswered, AreAnsweredPart, EndsLine, kept_run, kept_runs}
+use Rattle.pst_rejudge.specs.declared.reading.ItemResult.{ItemResult}
 use Rattle.pst_sexpr.specs.declared.form.Form.{Form}
 
-module _ (m : Source) where
-  -- each tree is read as the run in its place
-  abbrev AreRead : List Form → List Run → Type 0
-  AreRead = AllZip (λ form run. item_of m form ≡ Ok run)
+-- what holds place by place of two lists each holds of both, one behind the other
+all_zip_behind : {X Y : Type 0} (P : X → Y → Type 0) (xs more : List X) (ys others : List Y) → AllZip P xs ys → AllZip P more others
+    → AllZip P (xs ++ more) (ys ++ others)
+all_zip_behind P [] more [] others h k = k
+all_zip_behind P [] more (y ∷ ys) others h k = absurd h
+all_zip_behind P (x ∷ xs) more [] others h k = absurd h
+all_zip_behind P (x ∷ xs) more (y ∷ ys) others h k = (h.0, all_zip_behind P xs more ys others h.1 k)
 
-  all_read : (number : ℕ) (forms : List Form) (runs : List Run) → AreRead forms runs → runs_from m number forms ≡ Ok runs
-  all_read number [] [] h = refl
-  all_read number [] (run ∷ runs) h = absurd h
-  all_read number (form ∷ forms) [] h = absurd h
-  all_read number (form ∷ forms) (run ∷ runs) h =
-      ap (λ r. numbered number r >>= (λ one. then_more one (runs_from m (number + 1) forms))) h.0
-      ∙ ap (then_more run) (all_read (number + 1) forms runs h.1)
+module _ (order : CallOrder) (m : Source) (keeps : Bool) where
+  kept_behind : (forms more : List Form) (kept others : List Run) → kept ≡ kept_runs keeps m forms → others ≡ kept_runs keeps m more
+      → kept ++ others ≡ kept_runs keeps m (forms ++ more)
+  kept_behind forms more kept others h k =
+      (λ i. h i ++ k i) ∙ sym (flat_map-append (λ form. kept_run keeps (spelled_run m form)) forms more)
 
-  first_read : (number : ℕ) (one : Result Run ItemFault) (others : Result (List Run) RunFault) (runs : List Run)
-      → numbered number one >>= (λ run. then_more run others) ≡ Ok runs
-      → (run : Run) × (more : List Run) × (one ≡ Ok run) × (others ≡ Ok more) × (run ∷ more ≡ runs)
-  first_read number (Ok run) (Ok more) runs h = (run, more, refl, refl, cc)
-  first_read number (Ok run) (Err fault) runs h = absurd (cc)
-  first_read number (Err fault) others runs h = absurd (cc)
+  -- no tree has an answer, and no run is kept
+  pub none : AreAnswered order m keeps [] [] []
+  none = record { answered = tt; are_kept = refl }
 
-  each_read : (number : ℕ) (forms : List Form) (runs : List Run) → runs_from m number forms ≡ Ok runs → AreRead forms runs
-  each_read number [] runs h = let none : [] ≡ runs = cc in subst (AreRead []) none tt
-  each_read number (form ∷ forms) runs h =
-      let first = first_read number (item_of m form) (runs_from m (number + 1) forms) runs h in
-      subst (AreRead (form ∷ forms)) first.4 (first.2, each_read (number + 1) forms first.1 first.3)
-
-  read_behind : (forms more : List Form) (runs others : List Run) → AreRead forms runs → AreRead more others
-      → AreRead (forms ++ more) (runs ++ others)
-  read_behind [] more [] others h k = k
-  read_behind [] more (run ∷ runs) others h k = absurd h
-  read_behind (form ∷ forms) more [] others h k = absurd h
-  read_behind (form ∷ forms) more (run ∷ runs) others h k = (h.0, read_behind forms more runs others h.1 k)
-
-  spelled_behind : (a b : List ℕ) (runs others : List Run) → EndsLine a → SpellsRuns m a runs → SpellsRuns m b others
-      → SpellsRuns m (a ++ b) (runs ++ others)
-  spelled_behind a b runs others e h k = record {
-    trees = h.trees ++ k.trees;
-    spelled = joined e h.spelled k.spelled;
-    read = all_read 1 (h.trees ++ k.trees) (runs ++ others)
-        (read_behind h.trees k.trees runs others (each_read 1 h.trees runs h.read) (each_read 1 k.trees others k.read));
+  answered_behind : (forms more : List Form) (kept others : List Run) (answers next : List ItemResult) → AreAnswered order m keeps forms kept answers
+      → AreAnswered order m keeps more others next → AreAnswered order m keeps (forms ++ more) (kept ++ others) (answers ++ next)
+  answered_behind forms more kept others answers next h k = record {
+    answered = all_zip_behind (IsAnswer order m) forms more answers next h.answered k.answered;
+    are_kept = kept_behind forms more kept others h.are_kept k.are_kept;
   }
 
-  -- what parts spell is what the whole spells
-  pub spelled_in_parts : {A : Type 0} (runs_in : A → List Run) {bytes : List ℕ} {parts : List (List ℕ)} (lists : List A) → AreParts bytes parts
-      → AllZip (λ part list. SpellsRuns m part (runs_in list)) parts lists → SpellsRuns m bytes (flat_map runs_in lists)
-  spelled_in_parts runs_in [] last h = absurd h
-  spelled_in_parts runs_in {bytes} (list ∷ []) last h = subst (SpellsRuns m bytes) (sym (append-nil (runs_in list))) h.0
-  spelled_in_parts runs_in (list ∷ next ∷ lists) last h = absurd h.1
-  spelled_in_parts runs_in [] (before e p) h = absurd h
-  spelled_in_parts runs_in (list ∷ lists) (before {part} {bytes} e p) h =
-      spelled_behind part bytes (runs_in list) (flat_map runs_in lists) e h.0 (spelled_in_parts runs_in lists p h.1)
+  -- one more tree
+  pub one_more : (forms : List Form) (form : Form) (kept next : List Run) (run : Option Run) (answers others : List ItemResult) (answer : ItemResult)
+      → AreAnswered order m keeps forms kept answers → spelled_run m form ≡ run → IsAnswer order m form answer
+      → next ≡ kept ++ kept_run keeps run → others ≡ answers ++ answer ∷ [] → AreAnswered order m keeps (forms ++ form ∷ []) next others
+  one_more forms form kept next run answers others answer h is a more one =
+      let first : AreAnswered order m keeps (form ∷ []) (kept_run keeps run) (answer ∷ []) = record {
+        answered = (a, tt);
+        are_kept = ap (kept_run keeps) (sym is) ∙ sym (append-nil (kept_run keeps (spelled_run m form)));
+      } in
+      let whole = answered_behind forms (form ∷ []) kept (kept_run keeps run) answers (answer ∷ []) h first in
+      record {
+        answered = subst (AllZip (IsAnswer order m) (forms ++ form ∷ [])) (sym one) whole.answered;
+        are_kept = more ∙ whole.are_kept;
+      }
+
+  -- a part that ends with a line, and more bytes behind it
+  pub part_behind : (a b : List ℕ) (kept others : List Run) (answers next : List ItemResult) → EndsLine a
+      → AreAnsweredPart order m keeps a kept answers → AreAnsweredPart order m keeps b others next
+      → AreAnsweredPart order m keeps (a ++ b) (kept ++ others) (answers ++ next)
+  part_behind a b kept others answers next e h k = record {
+    trees = h.trees ++ k.trees;
+    spelled = joined e h.spelled k.spelled;
+    answered = answered_behind h.trees k.trees kept others answers next h.answered k.answered;
+  }
+
+  -- the same part, with nothing behind its runs and answers
+  pub part_alone : (bytes : List ℕ) (kept : List Run) (answers : List ItemResult) → AreAnsweredPart order m keeps bytes kept answers
+      → AreAnsweredPart order m keeps bytes (kept ++ []) (answers ++ [])
+  part_alone bytes kept answers h =
+      let Is : List Run → List ItemResult → Type 0 = λ runs results. AreAnsweredPart order m keeps bytes runs results in
+      subst (Is (kept ++ [])) (sym (append-nil answers)) (subst (λ runs. Is runs answers) (sym (append-nil kept)) h)

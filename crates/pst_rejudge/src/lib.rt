@@ -5,12 +5,14 @@
 
 ghost use Rattle.std.specs.Prelude.{◌≡◌, All, IfOk};
 ghost use Rattle.std.specs.List.{AllZip};
-ghost use Rattle.pst_judge.specs.Judgement.{IsJudgement, IsJudgementBy};
+ghost use Rattle.pst_judge.specs.Judgement.{IsJudgementBy};
 ghost use Rattle.pst_rejudge.specs.Judging.{MayBeJudged};
 
 mod field;
+mod item_results;
 mod laws;
 mod parts;
+mod plain;
 mod reading;
 mod sharing;
 mod steps;
@@ -20,11 +22,13 @@ mod verdict_fields;
 
 use crate::sharing::prove_runs_are_sync;
 pub use field::{Field, FieldName, add_number_field, add_text_field, json_object_line};
+pub use item_results::{first_refused_item, judgements_of_items};
 pub use laws::stream_lines_are_judged_as_items;
-pub use parts::{JudgedParts, read_and_judge_in_parts, split_before_second_bracket_line};
+pub use parts::{AnsweredParts, read_and_judge_in_parts, split_before_second_bracket_line};
+pub use plain::rejudge;
 use pst_case::Run;
 use pst_eval::Callbacks;
-use pst_judge::{CallOrder, Judge, Judged};
+use pst_judge::{Judge, Judged};
 use rayon::prelude::*;
 pub use reading::{ItemResult, read_and_judge_each_tree, read_and_judge_tree};
 pub use sharing::prove_models_are_sync;
@@ -75,25 +79,4 @@ pub fn rejudge_with_progress<C: Callbacks + Sync, R: Threads + Sync>(
             { judge_run_with_progress(judge, alloc, run, steps) },
         )
         .collect::<Result<Vec<Judged>, AllocError>>(rt, alloc)?
-}
-
-/// Returns the judgement of each item, in the order of the items: what `judge_one` gives of it. Several threads
-/// judge the items at once.
-pub fn rejudge<C: Callbacks + Sync, R: Threads + Sync>(
-    rt: &R,
-    callbacks: &C,
-    alloc: Global,
-    runs: &[Run],
-) -> Result<Vec<Judged>, AllocError>
-    requires { All (MayBeJudged (C.model callbacks.now)) runs.now }
-    ensures { IfOk result (λ all. AllZip (IsJudgement (C.model callbacks.now)) runs.now all.items) }
-{
-    let order = CallOrder::Any;
-    rejudge_with_progress(
-        rt,
-        &Judge { callbacks, order },
-        alloc,
-        runs,
-        &ProgressCounter::new(),
-    )
 }

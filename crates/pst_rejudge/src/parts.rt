@@ -3,56 +3,55 @@
 //!
 //! Each part but the last ends with a line. Each thread takes the next part that none has taken, so that a part that
 //! takes long holds up one thread alone.
-ghost use Rattle.std.specs.Prelude.{◌≡◌, All, IfOk, IfSome, ℕ, Bool, List, ◌≤◌, ◌<◌, ◌++◌, map, length, take};
-ghost use Rattle.pst_rejudge.specs.Parts.{IsJudgedPart, joined, EndsLine, AreParts};
-ghost use Rattle.pst_rejudge.specs.Places.{StandsIn, HoldsPart, AreFilled, runs_in, judged_in};
-ghost use Rattle.std.specs.List.{AllZip, flat_map};
-ghost use Rattle.pst_judge.specs.Judgement.{IsJudgementBy};
-ghost use Rattle.pst_rejudge.specs.Judging.{MayBeJudged};
+ghost use Rattle.std.specs.Prelude.{◌≡◌, All, IfOk, IfSome, OnOk, ℕ, Bool, List, ◌≤◌, ◌<◌, ◌++◌, map, length, take};
+ghost use Rattle.pst_rejudge.specs.Parts.{AreAnswered, AreAnsweredPart, joined, kept_run, EndsLine, AreParts};
+ghost use Rattle.pst_rejudge.specs.Places.{StandsIn, HoldsPart, AreFilled, runs_in, answers_in};
+ghost use Rattle.std.specs.List.{flat_map};
 ghost use Rattle.std.specs.Option.{IsSome};
 ghost use Rattle.pst_judge.specs.declared.by_order.CallOrder.{CallOrder};
 ghost use Rattle.pst_model.specs.declared.model.Source.{Source};
 ghost use Rattle.std.specs.Borrow.{Bor};
 
-use crate::reading::{PartFault, read_runs_of_part};
-use crate::sharing::{prove_judged_parts_are_send, prove_models_are_sync};
+use crate::reading::{ItemResult, PartFault, read_and_judge_item, read_trees_of_part};
+use crate::sharing::{prove_answered_parts_are_send, prove_models_are_sync};
 use crate::steps::ProgressCounter;
 use pst_case::Run;
 use pst_eval::Callbacks;
-use pst_judge::{Judge, Judged};
+use pst_judge::Judge;
 use pst_model::Typed;
+use pst_sexpr::Tree;
 use rayon::prelude::*;
 use std::alloc::{AllocError, Global};
 use std::sync::atomic::{AtomicUsize, Ordering};
 use std::thread::Threads;
 
-/// The runs of one part of an input, and the judgement on each.
+/// The answers to the items of one part of an input, and the runs that are kept of them.
 #[derive(Drop)]
-pub(crate) struct JudgedRuns {
-    /// The runs.
+pub(crate) struct AnsweredItems {
+    /// The runs of the items that are not refused, in the order of the items, if runs are kept.
     pub runs: Vec<Run>,
-    /// Their judgements, in the same order.
-    pub judged: Vec<Judged>,
+    /// The judgement on each item, or why it is refused, in the order of the items.
+    pub answers: Vec<ItemResult>,
 }
 
-/// The runs of an input, in the parts in which it was read, and the judgement on each.
+/// The answers to the items of an input, and their runs in the parts in which it was read.
 #[derive(Drop)]
-pub struct JudgedParts {
-    /// The runs of each part, in the order of the parts.
+pub struct AnsweredParts {
+    /// The runs that are kept of each part, in the order of the parts.
     pub runs: Vec<Vec<Run>>,
-    /// The judgement on each run, in the order of the runs.
-    pub judged: Vec<Judged>,
+    /// The judgement on each item, or why it is refused, in the order of the items.
+    pub answers: Vec<ItemResult>,
 }
 
 /// How many worker tasks start; late ones find no work.
 const OFFERS: usize = 64;
 
-/// Returns the runs of the items that an input spells, all of them trees of runs, and the judgements on them.
-/// It reads and judges the input in parts, several at once, and drops the trees of a part once its runs are
-/// read. The runs stay in these parts, and the judgements are one list. If `keeps` is false, each part's runs
-/// are dropped once they are judged, and all lists of runs are empty. `steps` counts the items that are judged.
+/// Returns the judgement on each item that an input spells, or why it is refused, and the runs of the items that are
+/// not refused. It reads and judges the input in parts, several at once, each item once, and drops the tree of an item
+/// once it is judged. The runs stay in these parts, and the answers are one list. If `keeps` is false, each run is
+/// dropped once it is judged, and all lists of runs are empty. `steps` counts the items.
 ///
-/// `None`: some part is not read by itself, which implies nothing for the whole input. `AllocError`: an
+/// `None`: some part is no text of trees by itself, which implies nothing for the whole input. `AllocError`: an
 /// allocation failed, even while reading or judging parts.
 ///
 /// `typed` is the model of the judge's callbacks.
@@ -64,13 +63,13 @@ pub fn read_and_judge_in_parts<C: Callbacks + Sync, R: Threads + Sync>(
     input: &[u8],
     keeps: bool,
     steps: &ProgressCounter,
-) -> Result<Option<JudgedParts>, AllocError>
+) -> Result<Option<AnsweredParts>, AllocError>
     requires { typed.now ≡ C.model judge.now.callbacks.now }
     ensures { IfOk result (λ read. IfSome read
-        (λ parts. IsJudgedPart judge.now.order typed.now keeps input.now (joined parts.runs.items) parts.judged.items)) }
+        (λ parts. AreAnsweredPart judge.now.order typed.now keeps input.now (joined parts.runs.items) parts.answers.items)) }
 {
     prove_models_are_sync();
-    prove_judged_parts_are_send();
+    prove_answered_parts_are_send();
     let parts = split_input_into_parts(alloc, input)?;
     let next = AtomicUsize::new(0);
     let offers = [0u8; OFFERS];
@@ -78,7 +77,7 @@ pub fn read_and_judge_in_parts<C: Callbacks + Sync, R: Threads + Sync>(
         .par_iter()
         .with_min_len(1)
         .map(
-            |_: &u8| -> Result<Vec<JudgedPart>, PartFault>
+            |_: &u8| -> Result<Vec<AnsweredPart>, PartFault>
                 requires { typed.now ≡ C.model judge.now.callbacks.now }
                 ensures { IfOk result (λ taken. All (StandsIn judge.entry.now.order (C.model judge.entry.now.callbacks.now) keeps parts.entry.items) taken.items) }
             {
@@ -93,10 +92,10 @@ pub fn read_and_judge_in_parts<C: Callbacks + Sync, R: Threads + Sync>(
                 )
             },
         )
-        .collect::<Result<Vec<Vec<JudgedPart>>, PartFault>>(rt, alloc)?;
+        .collect::<Result<Vec<Vec<AnsweredPart>>, PartFault>>(rt, alloc)?;
     match taken {
         Ok(lists) => {
-            let places = put_judged_parts_in_order(alloc, parts.as_slice(), lists)?;
+            let places = put_answered_parts_in_order(alloc, parts.as_slice(), lists)?;
             join_places_unless_one_is_empty(alloc, places)
         }
         Err(PartFault::NotRead) => Ok(None),
@@ -106,32 +105,50 @@ pub fn read_and_judge_in_parts<C: Callbacks + Sync, R: Threads + Sync>(
 
 /// A part of an input.
 #[derive(Drop)]
-pub(crate) struct JudgedPart {
+pub(crate) struct AnsweredPart {
     /// Its place among the parts, from 0.
     pub place: usize,
-    /// The runs that it spells, and the judgements on them.
-    pub content: JudgedRuns,
+    /// The answers to its items, and their runs.
+    pub content: AnsweredItems,
 }
 
-/// The judgement on each run. `steps` counts the runs.
-fn judge_runs_of_part<C: Callbacks>(
+/// Adds the run of an item to those that are kept, if runs are kept and the item is not refused.
+fn keep_run(keeps: bool, runs: &mut Vec<Run>, run: Option<Run>) -> Result<(), AllocError>
+    ensures { OnOk result (runs.new.items ≡ runs.old.items ++ kept_run keeps run) }
+{
+    match run {
+        Some(run) if keeps => {
+            runs.push(run)?;
+            Ok(())
+        }
+        _ => Ok(()),
+    }
+}
+
+/// The answers to the items that trees spell, with the runs if `keeps` is true. `steps` counts the items.
+fn read_and_judge_items<C: Callbacks>(
     judge: &Judge<'_, C>,
     alloc: Global,
-    runs: &[Run],
+    typed: &Typed,
+    trees: Vec<Tree>,
+    keeps: bool,
     steps: &ProgressCounter,
-) -> Result<Vec<Judged>, AllocError>
-    requires { All (MayBeJudged (C.model judge.now.callbacks.now)) runs.now }
-    ensures { IfOk result (λ all. AllZip (IsJudgementBy judge.now.order (C.model judge.now.callbacks.now)) runs.now all.items) }
+) -> Result<AnsweredItems, AllocError>
+    requires { typed.now ≡ C.model judge.now.callbacks.now }
+    ensures { IfOk result (λ items. AreAnswered judge.now.order (C.model judge.now.callbacks.now) keeps trees.items items.runs.items items.answers.items) }
 {
-    let mut judged = Vec::with_capacity(alloc, runs.len())?;
-    for run in runs {
-        judged.push(judge.judge_one(alloc, run)?)?;
+    let mut runs = Vec::with_capacity(alloc, if keeps { trees.len() } else { 0 })?;
+    let mut answers = Vec::with_capacity(alloc, trees.len())?;
+    for tree in trees {
+        let (run, answer) = read_and_judge_item(judge, alloc, typed, &tree)?;
         steps.add(1);
+        keep_run(keeps, &mut runs, run)?;
+        answers.push(answer)?;
     }
-    Ok(judged)
+    Ok(AnsweredItems { runs, answers })
 }
 
-/// The judgements on the runs that the bytes of a part spell, with the runs if `keeps` is true.
+/// The answers to the items that the bytes of a part spell, with the runs if `keeps` is true.
 fn read_and_judge_part<C: Callbacks>(
     judge: &Judge<'_, C>,
     alloc: Global,
@@ -139,16 +156,13 @@ fn read_and_judge_part<C: Callbacks>(
     bytes: &[u8],
     keeps: bool,
     steps: &ProgressCounter,
-) -> Result<JudgedRuns, PartFault>
+) -> Result<AnsweredItems, PartFault>
     requires { typed.now ≡ C.model judge.now.callbacks.now }
     ensures { IfOk result (HoldsPart judge.now.order (C.model judge.now.callbacks.now) keeps bytes.now) }
 {
-    let runs = read_runs_of_part(alloc, typed, bytes)?;
-    let judged = judge_runs_of_part(judge, alloc, runs.as_slice(), steps)?;
-    Ok(JudgedRuns {
-        runs: if keeps { runs } else { Vec::new(alloc) },
-        judged,
-    })
+    let trees = read_trees_of_part(alloc, bytes)?;
+    let items = read_and_judge_items(judge, alloc, typed, trees, keeps, steps)?;
+    Ok(items)
 }
 
 /// Reads and judges one part after another until none is left. No other thread takes these parts.
@@ -160,7 +174,7 @@ fn take_and_judge_remaining_parts<C: Callbacks>(
     keeps: bool,
     next: &AtomicUsize,
     steps: &ProgressCounter,
-) -> Result<Vec<JudgedPart>, PartFault>
+) -> Result<Vec<AnsweredPart>, PartFault>
     requires { typed.now ≡ C.model judge.now.callbacks.now }
     ensures { IfOk result (λ taken. All (StandsIn judge.now.order (C.model judge.now.callbacks.now) keeps parts.now) taken.items) }
 {
@@ -171,7 +185,7 @@ fn take_and_judge_remaining_parts<C: Callbacks>(
             return Ok(taken);
         };
         let content = read_and_judge_part(judge, alloc, typed, bytes, keeps, steps)?;
-        if taken.push(JudgedPart { place, content }).is_err() {
+        if taken.push(AnsweredPart { place, content }).is_err() {
             return Err(PartFault::NoMemory);
         }
     }
@@ -182,7 +196,7 @@ fn take_and_judge_remaining_parts<C: Callbacks>(
 fn empty_places_for_parts(
     alloc: Global,
     parts: &[&[u8]],
-) -> Result<Vec<Option<JudgedRuns>>, AllocError>
+) -> Result<Vec<Option<AnsweredItems>>, AllocError>
     ensures { IfOk result (λ places. (order : CallOrder) (m : Source) (keeps : Bool) → AreFilled order m keeps parts.now places.items) }
 {
     let mut places = Vec::with_capacity(alloc, parts.len())?;
@@ -193,16 +207,16 @@ fn empty_places_for_parts(
 }
 
 /// The places with parts put into them.
-fn put_judged_parts_into_places(
-    mut places: Vec<Option<JudgedRuns>>,
-    taken: Vec<JudgedPart>,
-) -> Vec<Option<JudgedRuns>>
+fn put_answered_parts_into_places(
+    mut places: Vec<Option<AnsweredItems>>,
+    taken: Vec<AnsweredPart>,
+) -> Vec<Option<AnsweredItems>>
     ensures { (order : CallOrder) (m : Source) (keeps : Bool) (parts : List (Bor (List ℕ)))
         → AreFilled order m keeps parts places.items → All (StandsIn order m keeps parts) taken.items
         → AreFilled order m keeps parts result.items }
 {
     for part in taken {
-        let JudgedPart { place, content } = part;
+        let AnsweredPart { place, content } = part;
         if place < places.len() {
             places[place] = Some(content);
         }
@@ -211,54 +225,54 @@ fn put_judged_parts_into_places(
 }
 
 /// All parts that were taken, each in its place.
-fn put_judged_parts_in_order(
+fn put_answered_parts_in_order(
     alloc: Global,
     parts: &[&[u8]],
-    lists: Vec<Vec<JudgedPart>>,
-) -> Result<Vec<Option<JudgedRuns>>, AllocError>
+    lists: Vec<Vec<AnsweredPart>>,
+) -> Result<Vec<Option<AnsweredItems>>, AllocError>
     ensures { IfOk result (λ places. (order : CallOrder) (m : Source) (keeps : Bool)
         → All (λ taken. All (StandsIn order m keeps parts.now) taken.items) lists.items
         → AreFilled order m keeps parts.now places.items) }
 {
     let mut places = empty_places_for_parts(alloc, parts)?;
     for taken in lists {
-        places = put_judged_parts_into_places(places, taken);
+        places = put_answered_parts_into_places(places, taken);
     }
     Ok(places)
 }
 
-/// How many runs the places hold.
-fn count_runs_in_places(places: &[Option<JudgedRuns>]) -> usize {
+/// How many items the places hold.
+fn count_items_in_places(places: &[Option<AnsweredItems>]) -> usize {
     let mut count: usize = 0;
     for place in places {
         if let Some(content) = place {
-            count = count.saturating_add(content.runs.len());
+            count = count.saturating_add(content.answers.len());
         }
     }
     count
 }
 
-/// The runs of each place, and their judgements as one list, or `None` if some place is empty.
+/// The runs of each place, and the answers of all as one list, or `None` if some place is empty.
 fn join_places_unless_one_is_empty(
     alloc: Global,
-    places: Vec<Option<JudgedRuns>>,
-) -> Result<Option<JudgedParts>, AllocError>
+    places: Vec<Option<AnsweredItems>>,
+) -> Result<Option<AnsweredParts>, AllocError>
     ensures all { IfOk result (λ read. IfSome read (λ all. All IsSome places.items)) }
     ensures runs { IfOk result
         (λ read. IfSome read (λ all. joined all.runs.items ≡ flat_map runs_in places.items)) }
-    ensures judged { IfOk result
-        (λ read. IfSome read (λ all. all.judged.items ≡ flat_map judged_in places.items)) }
+    ensures answers { IfOk result
+        (λ read. IfSome read (λ all. all.answers.items ≡ flat_map answers_in places.items)) }
 {
     let mut runs = Vec::with_capacity(alloc, places.len())?;
-    let mut judged = Vec::with_capacity(alloc, count_runs_in_places(places.as_slice()))?;
+    let mut answers = Vec::with_capacity(alloc, count_items_in_places(places.as_slice()))?;
     for place in places {
         let Some(mut content) = place else {
             return Ok(None);
         };
-        judged.append(&mut content.judged)?;
+        answers.append(&mut content.answers)?;
         runs.push(content.runs)?;
     }
-    Ok(Some(JudgedParts { runs, judged }))
+    Ok(Some(AnsweredParts { runs, answers }))
 }
 
 /// An input has no more parts than these.

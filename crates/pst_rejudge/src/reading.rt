@@ -1,12 +1,11 @@
 //! Reads items and judges each tree by itself, several at once, so that a refused tree does not affect the verdicts
-//! of the others; and reads the items of a part of an input.
+//! of the others; and reads the trees of a part of an input.
 ghost use Rattle.std.specs.Prelude.{◌≡◌, IfOk, MatchResult, Ok, Err};
 ghost use Rattle.std.specs.List.{AllZip};
-ghost use Rattle.pst_rejudge.specs.Answers.{IsAnswer};
+ghost use Rattle.pst_rejudge.specs.Answers.{IsAnswer, spelled_run};
 ghost use Rattle.pst_rejudge.specs.Judging.{MayBeJudged};
-ghost use Rattle.pst_rejudge.specs.Parts.{SpellsRuns};
 ghost use Rattle.pst_runs.specs.Items.{item_of};
-ghost use Rattle.pst_runs.specs.Lawful.{AreLawful};
+ghost use Rattle.pst_sexpr.specs.Reading.{Spells};
 
 use crate::sharing::prove_models_are_sync;
 use crate::steps::ProgressCounter;
@@ -35,6 +34,26 @@ pub enum ItemResult {
     },
 }
 
+/// Reads and judges the item that a tree spells. Returns its run, unless it is refused, and the answer.
+pub(crate) fn read_and_judge_item<C: Callbacks>(
+    judge: &Judge<'_, C>,
+    alloc: Global,
+    typed: &Typed,
+    tree: &Tree,
+) -> Result<(Option<Run>, ItemResult), AllocError>
+    requires { typed.now ≡ C.model judge.now.callbacks.now }
+    ensures run { IfOk result (λ item. spelled_run (C.model judge.now.callbacks.now) tree.now ≡ item.0) }
+    ensures answer { IfOk result (λ item. IsAnswer judge.now.order (C.model judge.now.callbacks.now) tree.now item.1) }
+{
+    match read_run_of_tree(alloc, typed, tree)? {
+        Ok(run) => {
+            let judged = judge.judge_one(alloc, &run)?;
+            Ok((Some(run), ItemResult::Judged(judged)))
+        }
+        Err(RunFault { kind, command, .. }) => Ok((None, ItemResult::Refused { kind, command })),
+    }
+}
+
 /// Reads and judges the item that a tree spells.
 pub fn read_and_judge_tree<C: Callbacks>(
     judge: &Judge<'_, C>,
@@ -45,10 +64,8 @@ pub fn read_and_judge_tree<C: Callbacks>(
     requires { typed.now ≡ C.model judge.now.callbacks.now }
     ensures { IfOk result (IsAnswer judge.now.order (C.model judge.now.callbacks.now) tree.now) }
 {
-    match read_run_of_tree(alloc, typed, tree)? {
-        Ok(run) => Ok(ItemResult::Judged(judge.judge_one(alloc, &run)?)),
-        Err(RunFault { kind, command, .. }) => Ok(ItemResult::Refused { kind, command }),
-    }
+    let (_, answer) = read_and_judge_item(judge, alloc, typed, tree)?;
+    Ok(answer)
 }
 
 /// Reads and judges the item that a tree spells, and counts it in `steps`.
@@ -125,7 +142,7 @@ fn read_run_of_tree(
 /// Why a part of an input was not read and judged by itself.
 #[derive(Clone, Copy, Debug, PartialEq, Eq, Drop)]
 pub(crate) enum PartFault {
-    /// Its bytes are no file of trees, or one of its items is refused.
+    /// Its bytes are no text of trees.
     NotRead,
     /// An allocation failed.
     NoMemory,
@@ -146,24 +163,12 @@ fn part_fault_of_sexpr_fault(fault: SexprFault) -> PartFault {
     }
 }
 
-/// The runs that the bytes of a part spell.
-pub(crate) fn read_runs_of_part(
-    alloc: Global,
-    typed: &Typed,
-    bytes: &[u8],
-) -> Result<Vec<Run>, PartFault>
-    ensures spelled { IfOk result (λ runs. SpellsRuns typed.now bytes.now runs.items) }
-    ensures lawful { IfOk result (λ runs. AreLawful typed.now runs.items) }
+/// The trees that the bytes of a part spell.
+pub(crate) fn read_trees_of_part(alloc: Global, bytes: &[u8]) -> Result<Vec<Tree>, PartFault>
+    ensures { IfOk result (λ trees. Spells bytes.now trees.items) }
 {
-    let trees = match read(alloc, bytes) {
-        Ok(trees) => trees,
-        Err(fault) => return Err(part_fault_of_sexpr_fault(fault)),
-    };
-    match read_runs(alloc, typed, trees.as_slice()) {
-        Ok(runs) => Ok(runs),
-        Err(fault) if fault.kind == RunFaultKind::Case(CaseFaultKind::NoMemory) => {
-            Err(PartFault::NoMemory)
-        }
-        Err(_) => Err(PartFault::NotRead),
+    match read(alloc, bytes) {
+        Ok(trees) => Ok(trees),
+        Err(fault) => Err(part_fault_of_sexpr_fault(fault)),
     }
 }

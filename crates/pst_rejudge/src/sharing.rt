@@ -2,9 +2,10 @@
 ghost use Rattle.std.specs.Thread.{IsSend, IsSync};
 ghost use Rattle.pst_case.specs.contracts.history.Run.{the_row as run_row};
 ghost use Rattle.pst_model.specs.contracts.model.Typed.{the_row as typed_row};
-ghost use Rattle.pst_rejudge.specs.contracts.parts.JudgedPart.{the_row as part_row};
+ghost use Rattle.pst_rejudge.specs.contracts.parts.AnsweredPart.{the_row as part_row};
 
-use crate::parts::{JudgedPart, JudgedRuns};
+use crate::parts::{AnsweredItems, AnsweredPart};
+use crate::reading::ItemResult;
 use pst_case::{Case, Command, Run};
 use pst_judge::Judged;
 use pst_model::Typed;
@@ -37,12 +38,13 @@ pub fn prove_models_are_sync()
     prove_sync::<Typed>()
 }
 
-/// Parts that are judged may be sent to threads.
-pub(crate) fn prove_judged_parts_are_send()
+/// Parts whose items are answered may be sent to threads.
+pub(crate) fn prove_answered_parts_are_send()
     ensures { IsSend part_row }
 {
     prove_send::<Run>();
     prove_send::<Judged>();
-    prove_send::<JudgedRuns>();
-    prove_send::<JudgedPart>()
+    prove_send::<ItemResult>();
+    prove_send::<AnsweredItems>();
+    prove_send::<AnsweredPart>()
 }

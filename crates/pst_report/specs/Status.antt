@@ -38,3 +38,17 @@ ended_status entries =
     if list_any is_lost entries then Incomplete
     else if list_any did_not_pass entries then Failed
     else if list_any is_missing entries then Incomplete else Passed
+
+-- passed
+abbrev pub is_passed : Entry RecordView → Bool
+is_passed e = is_same (kind_of e) kind.Passed
+
+-- of a campaign that ended when its caller wished, as after some seconds: Incomplete where a number is lost; else Failed where a
+-- trial did not pass; else Passed where a trial passed, though numbers are undrawn; else Incomplete where a number is undrawn, so
+-- that no trial was made; else Passed
+abbrev pub made_status : List (Entry RecordView) → CampaignStatus
+made_status entries =
+    if list_any is_lost entries then Incomplete
+    else if list_any did_not_pass entries then Failed
+    else if list_any is_passed entries then Passed
+    else if list_any is_missing entries then Incomplete else Passed

@@ -15,5 +15,7 @@ pub use failures::{
     first_trial_with_generation_fault, shrunk_failure_of_record,
 };
 pub use object::{add_lost_trials_and_first_failure, campaign_report_fields_before_losses};
-pub use status::{CampaignStatus, EntryKind, campaign_status, status_of_stoppable_campaign};
+pub use status::{
+    CampaignStatus, EntryKind, campaign_status, status_of_made_trials, status_of_stoppable_campaign,
+};
 pub use writer::{ReportFault, report};

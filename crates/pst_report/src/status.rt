@@ -105,6 +105,38 @@ pub fn status_of_stoppable_campaign(closed: &Closed<Record>) -> CampaignStatus
     }
 }
 
+fn is_passed_entry(entry: &Entry<Record>) -> bool
+    ensures { result ≡ spec.is_passed entry.now }
+{
+    entry_kind(entry).is_same(EntryKind::Passed)
+}
+
+fn any_passed_entry(entries: &[Entry<Record>]) -> bool
+    ensures { result ≡ list_any spec.is_passed entries.now }
+{
+    entries.iter().any(|entry| is_passed_entry(entry))
+}
+
+/// How the trials of a campaign ended that were made, if the campaign ended when its caller wished: `Incomplete` if a number
+/// is lost; else `Failed` if a trial did not pass; else `Passed` if a trial passed, though numbers may be undrawn; else as
+/// [`campaign_status`] says.
+pub fn status_of_made_trials(closed: &Closed<Record>) -> CampaignStatus
+    ensures { result ≡ spec.made_status closed.now }
+{
+    let entries = closed.entries();
+    if any_lost_entry(entries) {
+        CampaignStatus::Incomplete
+    } else if any_drawn_entry_other_than_passed(entries) {
+        CampaignStatus::Failed
+    } else if any_passed_entry(entries) {
+        CampaignStatus::Passed
+    } else if any_lost_or_undrawn_entry(entries) {
+        CampaignStatus::Incomplete
+    } else {
+        CampaignStatus::Passed
+    }
+}
+
 /// How a trial ended.
 #[derive(Clone, Copy, Debug, PartialEq, Eq, Drop)]
 pub enum EntryKind {

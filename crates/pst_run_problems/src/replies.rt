@@ -197,12 +197,12 @@ fn with_reply_syntax_note(alloc: Global, found: Option<Problem>, has_maps: bool)
         alloc,
         found,
         format_args!(
-            "a reply is an integer, true, false, a text, (tuple v ..), (list v ..){maps}, misfit, failed or not-run"
+            "a reply is an integer, true, false, a text, (tuple v ..), (list v ..){maps}, misfit, failed, not-run or unknown"
         ),
     )
 }
 
-/// What to write in the place of `word` in a reply, if it is a word of models or of another language.
+/// What to write in the place of `word` in a reply, if it is a word of models, of another language or of another tool.
 fn hint_on_foreign_word_in_reply(word: &str) -> Option<&'static str> {
     match word {
         "int" | "bool" | "text" => {
@@ -213,6 +213,11 @@ fn hint_on_foreign_word_in_reply(word: &str) -> Option<&'static str> {
         "null" | "None" | "nil" | "undefined" => {
             Some(
                 "hint: there is no null: `true` if there is no result, `(list)` or `(list v)` for an option, `not-run` if the call was not made",
+            )
+        }
+        "timeout" | "info" | "pending" | "lost" | "?" => {
+            Some(
+                "hint: `unknown` is the reply of a call of which nobody knows whether it took effect, as after a timeout",
             )
         }
         _ => None,

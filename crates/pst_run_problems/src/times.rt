@@ -98,13 +98,39 @@ fn not_a_time_problem(alloc: Global, path: &[usize], form: &Form) -> FoundProble
     )
 }
 
-/// The problem of a time at `path` that is refused.
-fn bad_time_problem(alloc: Global, path: &[usize], form: &Form) -> FoundProblem {
+/// Whether a reply says that nobody knows the outcome of its call.
+fn is_unknown_outcome(reply: &Form) -> bool {
+    match reply {
+        Form::Word(word) => word.as_str() == "unknown",
+        Form::Text(_) | Form::Node(_) => false,
+    }
+}
+
+/// The problem of the time at `path` of a call of unknown outcome, which has a completion.
+fn unknown_outcome_with_completion_problem(alloc: Global, path: &[usize]) -> FoundProblem {
+    let found = problem_at(alloc, path, "a call of unknown outcome has no completion")?;
+    with_note(
+        alloc,
+        found,
+        "hint: write `-` (in JSON `null`) in its place: nobody knows when the call completed, or whether",
+    )
+}
+
+/// The problem of a time at `path` that is refused. It is the time of a call with the reply `reply`.
+fn bad_time_problem(
+    alloc: Global,
+    path: &[usize],
+    form: &Form,
+    reply: Option<&Form>,
+) -> FoundProblem {
     let Some(time) = read_time(form) else {
         return not_a_time_problem(alloc, path, form);
     };
     if !time.is_timely() {
         return problem_at(alloc, path, "the call completed before it was invoked");
+    }
+    if time.completed.is_some() && reply.is_some_and(|reply| is_unknown_outcome(reply)) {
+        return unknown_outcome_with_completion_problem(alloc, path);
     }
     let found = problem_at(
         alloc,
@@ -132,7 +158,10 @@ fn bad_time_of_command_problem(
     let replies = trees_in_list_or_empty(lists.replies, number);
     let index = count_calls(replies.get(..offset).unwrap_or(&[]));
     match trees_in_list_or_empty(lists.times, number.saturating_sub(1)).get(index) {
-        Some(form) => bad_time_problem(alloc, &[item, lists.place, number, index], form),
+        Some(form) => {
+            let path = [item, lists.place, number, index];
+            bad_time_problem(alloc, &path, form, replies.get(offset))
+        }
         None => Ok(None),
     }
 }

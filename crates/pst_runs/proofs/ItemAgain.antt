@@ -1,12 +1,13 @@
 -- A lawful run is read again from what is written for it.
-use Rattle.std.proofs.Common.{◌≡◌, ℕ, ◌+◌, ◌&&◌, true, length, List, [], ◌∷◌, ◌++◌, map, Option, Some, None, Ok, Err, refl, sym, ap, ◌∙◌, subst, eq-eqb, arith}
+use Rattle.std.proofs.Common.{◌≡◌, ℕ, ◌+◌, ◌&&◌, Bool, true, false, length, List, [], ◌∷◌, ◌++◌, map, Option, Some, None, Ok, Err, refl, sym, ap, ◌∙◌, subst, eq-eqb, arith}
 use Rattle.std.specs.Prelude.{IfSome, codes, if◌then◌else◌}
 use Rattle.std.specs.Str.{bytes_eq}
 use Rattle.std.proofs.lemmas.List.{length-map}
 use Rattle.pst_case.specs.Matches.{matches}
 use Rattle.pst_case.specs.Shape.{IsShaped}
 use Rattle.pst_case.specs.declared.case.Case.{Case}
-use Rattle.pst_case.specs.Times.{called, fit, AreTimed}
+use Rattle.pst_case.specs.Times.{called, fit}
+use Rattle.pst_case.specs.Unknown.{all_open, times_for, times_of_calls}
 use Rattle.pst_case.specs.declared.history.CallTime.{CallTime}
 use Rattle.pst_case.specs.declared.history.History.{History}
 use Rattle.pst_case.specs.declared.history.Run.{Run}
@@ -20,7 +21,7 @@ use Rattle.pst_runs.specs.Lawful.{IsLawful}
 use Rattle.pst_runs.specs.Reading.{readable_case}
 use Rattle.pst_runs.specs.Replies.{◌>>=◌, then_more, history_of}
 use Rattle.pst_runs.specs.Times.{timed_history}
-use Rattle.pst_sexpr.proofs.Numbers.{both_from}
+use Rattle.pst_sexpr.proofs.Numbers.{both_hold, both_from}
 use Rattle.pst_sexpr.specs.Parts.{and_then}
 use Rattle.pst_runs.specs.declared.reader.RunFaultKind.TheVariants.{NotAFit}
 use Rattle.pst_sexpr.specs.Bytes.{is_word_byte}
@@ -41,9 +42,17 @@ record ItemAgain (m : Source) (c : Case) (history : Option History) : Type 0 whe
   lawful : IsTree (item_form m c history)
   reads : item_of m (item_form m c history) ≡ Ok (run_with m c history)
 
--- the times fit the calls of a history
+-- the times fit the calls of a history, and no call of unknown outcome has a completion
 abbrev Fitting : History → Option (List (List CallTime)) → Type 0
-Fitting h times = IfSome times (λ times. fit (map called h.branches) times ≡ true)
+Fitting h times = IfSome times (λ times. (fit (map called h.branches) times && all_open h.branches times) ≡ true)
+
+chosen : (b : Bool) (times : List (List CallTime)) → (if b then Some times else None) ≡ Some times → b ≡ true
+chosen true times e = refl
+chosen false times e = absurd (cc)
+
+fits_of : (h : History) (times : Option (List (List CallTime))) → times_for h.branches times ≡ times → Fitting h times
+fits_of h None e = tt
+fits_of h (Some times) e = chosen (fit (map called h.branches) times && all_open h.branches times) times e
 
 module _ (m : Source) (model : WellModel m) (has : HasOperations m.items) (language : KeepsLanguage m) where
   abbrev parts : Case → (replies times : Option (List Form)) → Parts
@@ -74,12 +83,12 @@ module _ (m : Source) (model : WellModel m) (has : HasOperations m.items) (langu
   are_lists c h None e t = refl
   are_lists c h (Some times) e t =
       let n = length-map times times_form in
-      let k = number_fits h.branches times t in
+      let k = number_fits h.branches times (both_hold (fit (map called h.branches) times) (all_open h.branches times) t).0 in
       let l = branches_number m model has language c.branches h.branches (parts_match m model has language c h e).branches in
       let w = length-map c.branches whole_part in
       both_from _ _ (eq-eqb _ _ (omega arith)) (times_are_nodes times)
 
-  run_parts_read : (c : Case) (h : History) → CaseAgain m c → matches m c h ≡ true → AreTimed h
+  run_parts_read : (c : Case) (h : History) → CaseAgain m c → matches m c h ≡ true → Fitting h h.times
       → parts_of m (item_form m c (Some h)) ≡ Some (parts c (Some (lists_of h)) (time_lists h.times))
   unfolding parts_of
   run_parts_read c h a e t =
@@ -95,7 +104,9 @@ module _ (m : Source) (model : WellModel m) (has : HasOperations m.items) (langu
   times_read : (h : History) (times : Option (List (List CallTime))) → Fitting h times → IfSome times AreSmallTimes
       → timed_history (with h None) (time_lists times) ≡ Ok (with h times)
   times_read h None t s = refl
-  times_read h (Some times) t s = times_again (with h None) times t s
+  times_read h (Some times) t s =
+      let p = both_hold (fit (map called h.branches) times) (all_open h.branches times) t in
+      times_again (with h None) times p.0 p.1 s
 
   -- the case is read again
   again : (c : Case) (replies times : Option (List Form)) → IsShaped m c → of_parts m (Some (parts c replies times)) ≡ run_of m c replies times
@@ -109,7 +120,7 @@ module _ (m : Source) (model : WellModel m) (has : HasOperations m.items) (langu
   end_sized c h a e s =
       more_sized (wider 35 (history_sized m model has language c h a e) (omega arith)) (all_wider 35 (times_sized h.times s) (omega arith))
 
-  item_again : (c : Case) (history : Option History) → IsShaped m c → IfSome history (λ h. matches m c h ≡ true) → IfSome history AreTimed
+  item_again : (c : Case) (history : Option History) → IsShaped m c → IfSome history (λ h. matches m c h ≡ true) → IfSome history (λ h. times_of_calls h ≡ h.times)
       → IfSome history HasSmallTimes → ItemAgain m c history
   unfolding item_of is_word_byte
   item_again c None s e t b =
@@ -122,13 +133,14 @@ module _ (m : Source) (model : WellModel m) (has : HasOperations m.items) (langu
       let a = case_again m model has language c s in
       let lists = lists_of h in
       let times = time_lists h.times in
+      let fits = fits_of h h.times t in
       record {
         lawful = (headed_sized _ _ refl (all_sized (case_forms m c) _ (case_sized m c a) (end_sized c h a e b)) (omega arith)).lawful;
         reads =
-            ap (of_parts m) (run_parts_read c h a e t) ∙ again c (Some lists) times s
+            ap (of_parts m) (run_parts_read c h a e fits) ∙ again c (Some lists) times s
             ∙ ap (λ b. if b then with_history m c times (history_of m c lists) else Err (record { kind = NotAFit; command = 0 })) (history_counted m model has language c h e)
             ∙ ap (with_history m c times) (history_read m model has language c h a e)
-            ∙ ap (with_times m c) (times_read h h.times t b);
+            ∙ ap (with_times m c) (times_read h h.times fits b);
       }
 
   -- what is written of a lawful run has a spelling

@@ -43,16 +43,19 @@ unnumbered number (Err fault) run h = absurd (cc)
 module _ (m : Source) where
   -- ---- replies
 
-  no_value : (c : Command) (a b d : Bool) (said : Reply)
-      → (if a then Some reply.Misfit else if b then Some reply.Failed else if d then Some reply.NotRun else None) ≡ Some said → reply_fits m c said ≡ true
-  no_value c true b d said h = let e : reply.Misfit ≡ said = cc in let P : Reply → Type 0 = λ r. reply_fits m c r ≡ true in subst P e refl
-  no_value c false true d said h = let e : reply.Failed ≡ said = cc in let P : Reply → Type 0 = λ r. reply_fits m c r ≡ true in subst P e refl
-  no_value c false false true said h = let e : reply.NotRun ≡ said = cc in let P : Reply → Type 0 = λ r. reply_fits m c r ≡ true in subst P e refl
-  no_value c false false false said h = absurd (cc)
+  no_value : (c : Command) (a b d e : Bool) (said : Reply)
+      → (if a then Some reply.Misfit else if b then Some reply.Failed else if d then Some reply.NotRun else if e then Some reply.Unknown else None) ≡ Some said
+      → reply_fits m c said ≡ true
+  no_value c true b d e said h = let e : reply.Misfit ≡ said = cc in let P : Reply → Type 0 = λ r. reply_fits m c r ≡ true in subst P e refl
+  no_value c false true d e said h = let e : reply.Failed ≡ said = cc in let P : Reply → Type 0 = λ r. reply_fits m c r ≡ true in subst P e refl
+  no_value c false false true e said h = let e : reply.NotRun ≡ said = cc in let P : Reply → Type 0 = λ r. reply_fits m c r ≡ true in subst P e refl
+  no_value c false false false true said h = let e : reply.Unknown ≡ said = cc in let P : Reply → Type 0 = λ r. reply_fits m c r ≡ true in subst P e refl
+  no_value c false false false false said h = absurd (cc)
 
   word_fits : (c : Command) (word : Option (List ℕ)) (said : Reply) → reply_word word ≡ Some said → reply_fits m c said ≡ true
   word_fits c None said h = absurd (cc)
-  word_fits c (Some word) said h = no_value c (bytes_eq word (codes "misfit")) (bytes_eq word (codes "failed")) (bytes_eq word (codes "not-run")) said h
+  word_fits c (Some word) said h =
+      no_value c (bytes_eq word (codes "misfit")) (bytes_eq word (codes "failed")) (bytes_eq word (codes "not-run")) (bytes_eq word (codes "unknown")) said h
 
   chosen : (c : Command) (v : Value) (b : Bool) → fits_in m [] [] v (result_type m c) ≡ b → reply_fits m c (if b then reply.Value v else reply.Misfit) ≡ true
   chosen c v true e = e

@@ -85,6 +85,10 @@ module _ (m : Source) (model : WellModel m) (has : HasOperations m.items) (langu
     sized = letters_sized 32 _ _ refl;
     reads = ap (λ o. or_value (reply_word o) (answer m c (value_of (in_replies m) (Word (codes "not-run"))))) (word_is (codes "not-run"));
   }
+  reply_read c reply.Unknown a e = record {
+    sized = letters_sized 32 _ _ refl;
+    reads = ap (λ o. or_value (reply_word o) (answer m c (value_of (in_replies m) (Word (codes "unknown"))))) (word_is (codes "unknown"));
+  }
 
   -- ---- the replies of a part
 

@@ -1,5 +1,5 @@
 -- The times of a history are read again from what is written for them.
-use Rattle.std.proofs.Common.{◌≡◌, ℕ, zero, suc, ◌+◌, ◌<◌, ◌≤◌, ◌^◌, ◌&&◌, ◌==◌, not, Bool, true, false, length, get_or, List, [], ◌∷◌, map, Option, Some, None, Result, Ok, Err, refl, sym, ap, ◌∙◌, subst, eq-eqb, eqb-true, arith}
+use Rattle.std.proofs.Common.{◌≡◌, ℕ, zero, suc, ◌+◌, ◌<◌, ◌≤◌, ◌^◌, ◌&&◌, ◌||◌, ◌==◌, not, Bool, true, false, length, get_or, List, [], ◌∷◌, map, Option, Some, None, Result, Ok, Err, refl, sym, ap, ◌∙◌, subst, eq-eqb, eqb-true, arith}
 use Rattle.std.specs.Prelude.{codes, decimal, nat_lt, if◌then◌else◌, IfSome}
 use Rattle.std.specs.List.{list_all}
 use Rattle.std.specs.Option.{option_map}
@@ -8,16 +8,17 @@ use Rattle.std.proofs.lemmas.Bool.Decides.{nat_tests}
 use Rattle.std.proofs.lemmas.Fmt.{digits_decimal, digits_value-decimal, decimal_nonempty, decimal_digit, first_decimal}
 use Rattle.std.proofs.lemmas.List.{length-map}
 use Rattle.pst_case.specs.Times.{called, is_timely, is_over_by, is_over_by_first, are_in_turn, fit}
+use Rattle.pst_case.specs.Unknown.{is_open, are_open, all_open}
 use Rattle.pst_case.specs.declared.history.CallTime.{CallTime}
 use Rattle.pst_case.specs.declared.history.History.{History}
 use Rattle.pst_case.specs.declared.history.Reply.{Reply}
-use Rattle.pst_case.specs.declared.history.Reply.TheVariants.{Value as Answered, Misfit, Failed, NotRun}
+use Rattle.pst_case.specs.declared.history.Reply.TheVariants.{Value as Answered, Misfit, Failed, NotRun, Unknown}
 use Rattle.pst_runs.proofs.CommandAgain.{node_is, word_is}
 use Rattle.pst_runs.proofs.Sized.{Sized, AllSized, none_sized, more_sized, word_sized, letters_sized, node_sized, headed_sized}
 use Rattle.pst_runs.specs.Forms.{is_node, are_nodes}
 use Rattle.pst_runs.specs.ReadAgain.{IsSmall, AreSmallCalls, AreSmallTimes}
 use Rattle.pst_runs.specs.Replies.{◌>>=◌, then_more, or_number, listed, listed_in}
-use Rattle.pst_runs.specs.Times.{has_leading_zero, instant_of, completion_of, time_in, time_of, at_first, is_in_turn, time_after, branch_times, times_from, are_times_counted, times_of, timed, timed_history}
+use Rattle.pst_runs.specs.Times.{has_leading_zero, instant_of, completion_of, time_in, time_of, at_first, is_in_turn, may_have_time, may_follow, time_after, branch_times, times_from, are_times_counted, times_of, timed, timed_history}
 use Rattle.pst_runs.specs.Written.{completion_word, time_form, times_form, times_forms}
 use Rattle.pst_sexpr.proofs.Digits.{digits_are_word}
 use Rattle.pst_sexpr.proofs.Made.{word_is_tree}
@@ -76,9 +77,9 @@ time_read t s =
     ∙ ap (λ o. and_then (and_then o completion_of) (λ c. Some (record { invoked = t.invoked; completed = c }))) (word_is (completion_word t.completed))
     ∙ ap (λ o. and_then o (λ c. Some (record { invoked = t.invoked; completed = c }))) (completion_read t.completed s.completed)
 
-turn_read : (before t : CallTime) → IsSmall t → is_in_turn before t ≡ true → time_after before (time_form t) ≡ Some t
-turn_read before t s e =
-    ap (λ o. and_then o (λ t. where_true (is_in_turn before t) t)) (time_read t s)
+turn_read : (before t : CallTime) (r : Reply) → IsSmall t → may_follow before r t ≡ true → time_after before r (time_form t) ≡ Some t
+turn_read before t r s e =
+    ap (λ o. and_then o (λ t. where_true (may_follow before r t) t)) (time_read t s)
     ∙ ap (λ b. where_true b t) e
 
 -- ---- the times of a branch
@@ -101,26 +102,32 @@ turns before t ts h =
       others = record { first = q.1; all = p.1 };
     }
 
-one_again : (before t : CallTime) (number : ℕ) (ts : List CallTime) (more : CallTime → Result (List CallTime) ℕ) → is_in_turn before t ≡ true → IsSmall t
-    → more t ≡ Ok ts → (or_number number (time_after before (time_form t)) >>= (λ t. then_more t (more t))) ≡ Ok (t ∷ ts)
-one_again before t number ts more e s h =
-    ap (λ o. or_number number o >>= (λ t. then_more t (more t))) (turn_read before t s e) ∙ ap (then_more t) h
+one_again : (before t : CallTime) (r : Reply) (number : ℕ) (ts : List CallTime) (more : CallTime → Result (List CallTime) ℕ) → is_in_turn before t ≡ true
+    → may_have_time r t ≡ true → IsSmall t
+    → more t ≡ Ok ts → (or_number number (time_after before r (time_form t)) >>= (λ t. then_more t (more t))) ≡ Ok (t ∷ ts)
+one_again before t r number ts more e o s h =
+    let may = both_from (is_in_turn before t) (may_have_time r t) e o in
+    ap (λ o. or_number number o >>= (λ t. then_more t (more t))) (turn_read before t r s may) ∙ ap (then_more t) h
 
-branch_again : (rs : List Reply) (ts : List CallTime) (before : CallTime) (number : ℕ) → length ts ≡ called rs → InTurn before ts → AreSmallCalls ts
-    → branch_times before number rs (map time_form ts) ≡ Ok ts
-branch_again [] [] before number l h s = refl
-branch_again [] (t ∷ ts) before number l h s = absurd (omega (arith, l))
-branch_again (r ∷ rs) [] before number l h s = refl
-branch_again (Answered v ∷ rs) (t ∷ ts) before number l h s =
+branch_again : (rs : List Reply) (ts : List CallTime) (before : CallTime) (number : ℕ) → length ts ≡ called rs → InTurn before ts → are_open rs ts ≡ true
+    → AreSmallCalls ts → branch_times before number rs (map time_form ts) ≡ Ok ts
+branch_again [] [] before number l h o s = refl
+branch_again [] (t ∷ ts) before number l h o s = absurd (omega (arith, l))
+branch_again (r ∷ rs) [] before number l h o s = refl
+branch_again (Answered v ∷ rs) (t ∷ ts) before number l h o s =
     let p = turns before t ts h in
-    one_again before t number ts (λ t. branch_times t (number + 1) rs (map time_form ts)) p.turn s.0 (branch_again rs ts t (number + 1) (omega (arith, l)) p.others s.1)
-branch_again (Misfit ∷ rs) (t ∷ ts) before number l h s =
+    one_again before t (Answered v) number ts (λ t. branch_times t (number + 1) rs (map time_form ts)) p.turn refl s.0 (branch_again rs ts t (number + 1) (omega (arith, l)) p.others o s.1)
+branch_again (Misfit ∷ rs) (t ∷ ts) before number l h o s =
     let p = turns before t ts h in
-    one_again before t number ts (λ t. branch_times t (number + 1) rs (map time_form ts)) p.turn s.0 (branch_again rs ts t (number + 1) (omega (arith, l)) p.others s.1)
-branch_again (Failed ∷ rs) (t ∷ ts) before number l h s =
+    one_again before t Misfit number ts (λ t. branch_times t (number + 1) rs (map time_form ts)) p.turn refl s.0 (branch_again rs ts t (number + 1) (omega (arith, l)) p.others o s.1)
+branch_again (Failed ∷ rs) (t ∷ ts) before number l h o s =
     let p = turns before t ts h in
-    one_again before t number ts (λ t. branch_times t (number + 1) rs (map time_form ts)) p.turn s.0 (branch_again rs ts t (number + 1) (omega (arith, l)) p.others s.1)
-branch_again (NotRun ∷ rs) (t ∷ ts) before number l h s = branch_again rs (t ∷ ts) before (number + 1) (omega (arith, l)) h s
+    one_again before t Failed number ts (λ t. branch_times t (number + 1) rs (map time_form ts)) p.turn refl s.0 (branch_again rs ts t (number + 1) (omega (arith, l)) p.others o s.1)
+branch_again (NotRun ∷ rs) (t ∷ ts) before number l h o s = branch_again rs (t ∷ ts) before (number + 1) (omega (arith, l)) h o s
+branch_again (Unknown ∷ rs) (t ∷ ts) before number l h o s =
+    let p = turns before t ts h in
+    let q = both_hold (is_open t) (are_open rs ts) o in
+    one_again before t Unknown number ts (λ t. branch_times t (number + 1) rs (map time_form ts)) p.turn q.0 s.0 (branch_again rs ts t (number + 1) (omega (arith, l)) p.others q.1 s.1)
 
 at_first_over : (ts : List CallTime) → is_over_by_first at_first ts ≡ true
 at_first_over [] = refl
@@ -153,27 +160,28 @@ counted_again (rs ∷ rss) (ts ∷ times) e =
     let n : length (listed (times_form ts)) ≡ called rs = ap length (listed_is ts) ∙ length-map ts time_form ∙ p.number in
     both_from _ _ (eq-eqb _ _ n) (counted_again rss times p.others)
 
-from_again : (rss : List (List Reply)) (times : List (List CallTime)) (before : ℕ) → fit (map called rss) times ≡ true → AreSmallTimes times
-    → times_from before rss (map times_form times) ≡ Ok times
+from_again : (rss : List (List Reply)) (times : List (List CallTime)) (before : ℕ) → fit (map called rss) times ≡ true → all_open rss times ≡ true
+    → AreSmallTimes times → times_from before rss (map times_form times) ≡ Ok times
 unfolding fit
-from_again [] [] before e s = refl
-from_again [] (ts ∷ times) before e s = absurd (cc)
-from_again (rs ∷ rss) [] before e s = absurd (cc)
-from_again (rs ∷ rss) (ts ∷ times) before e s =
+from_again [] [] before e o s = refl
+from_again [] (ts ∷ times) before e o s = absurd (cc)
+from_again (rs ∷ rss) [] before e o s = absurd (cc)
+from_again (rs ∷ rss) (ts ∷ times) before e o s =
     let p = fits_first rs rss ts times e in
+    let q = both_hold (are_open rs ts) (all_open rss times) o in
     let more = times_from (before + length rs) rss (map times_form times) in
     let one : branch_times at_first (before + 1) rs (listed (times_form ts)) ≡ Ok ts =
-    ap (branch_times at_first (before + 1) rs) (listed_is ts) ∙ branch_again rs ts at_first (before + 1) p.number p.turns s.0 in
+    ap (branch_times at_first (before + 1) rs) (listed_is ts) ∙ branch_again rs ts at_first (before + 1) p.number p.turns q.0 s.0 in
     ap (λ r. r >>= (λ ts. then_more ts more)) one
-    ∙ ap (then_more ts) (from_again rss times (before + length rs) p.others s.1)
+    ∙ ap (then_more ts) (from_again rss times (before + length rs) p.others q.1 s.1)
 
 -- the times are read again
-pub times_again : (h : History) (times : List (List CallTime)) → fit (map called h.branches) times ≡ true → AreSmallTimes times
-    → timed_history h (Some (map times_form times)) ≡ Ok (timed h times)
-times_again h times e s =
+pub times_again : (h : History) (times : List (List CallTime)) → fit (map called h.branches) times ≡ true → all_open h.branches times ≡ true
+    → AreSmallTimes times → timed_history h (Some (map times_form times)) ≡ Ok (timed h times)
+times_again h times e o s =
     let from = times_from (length h.prefix) h.branches (map times_form times) in
     ap (λ b. (if b then from else Err 0) >>= (λ times. Ok (timed h times))) (counted_again h.branches times e)
-    ∙ ap (λ r. r >>= (λ times. Ok (timed h times))) (from_again h.branches times (length h.prefix) e s)
+    ∙ ap (λ r. r >>= (λ times. Ok (timed h times))) (from_again h.branches times (length h.prefix) e o s)
 
 -- ---- their form
 

@@ -64,7 +64,8 @@ module _ (spelling : Spelling) where
       let a : bytes_eq word (codes "misfit") ≡ false = early_apart word 109 _ h (omega arith) in
       let b : bytes_eq word (codes "failed") ≡ false = early_apart word 102 _ h (omega arith) in
       let c : bytes_eq word (codes "not-run") ≡ false = early_apart word 110 _ h (omega arith) in
-      ap (λ x. reply_word (word_at x)) (outs-Word word) ∙ rw (a, b, c) refl
+      let d : bytes_eq word (codes "unknown") ≡ false = early_apart word 117 _ h (omega arith) in
+      ap (λ x. reply_word (word_at x)) (outs-Word word) ∙ rw (a, b, c, d) refl
 
   int_again : (depth : ℕ) (n : ℤ) → is_i64 n ≡ true → FormAgain spelling depth (Int n) (value_form (Int n))
   int_again depth n e =

@@ -26,6 +26,7 @@ reply_word (Some word) =
     if bytes_eq word (codes "misfit") then Some reply.Misfit
     else if bytes_eq word (codes "failed") then Some reply.Failed
     else if bytes_eq word (codes "not-run") then Some reply.NotRun
+    else if bytes_eq word (codes "unknown") then Some reply.Unknown
     else None
 
 abbrev pub or_value : Option Reply → Option Reply → Option Reply

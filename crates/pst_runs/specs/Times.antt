@@ -1,12 +1,13 @@
 -- The times that lists of times spell, for the calls of a history.
-use Rattle.std.specs.Prelude.{◌==◌, ◌&&◌, ◌+◌, ℕ, Bool, true, false, not, if◌then◌else◌, List, [], ◌∷◌, length, Option, Some, None, Result, Ok, Err, codes}
+use Rattle.std.specs.Prelude.{◌==◌, ◌&&◌, ◌||◌, ◌+◌, ℕ, Bool, true, false, not, if◌then◌else◌, List, [], ◌∷◌, length, Option, Some, None, Result, Ok, Err, codes}
 use Rattle.std.specs.Option.{option_map}
 use Rattle.std.specs.Str.{bytes_eq}
 use Rattle.pst_case.specs.Times.{called, is_timely, is_over_by}
+use Rattle.pst_case.specs.Unknown.{is_unknown, is_open}
 use Rattle.pst_case.specs.declared.history.CallTime.{CallTime}
 use Rattle.pst_case.specs.declared.history.History.{History}
 use Rattle.pst_case.specs.declared.history.Reply.{Reply}
-use Rattle.pst_case.specs.declared.history.Reply.TheVariants.{Value as Answered, Misfit, Failed, NotRun}
+use Rattle.pst_case.specs.declared.history.Reply.TheVariants.{Value as Answered, Misfit, Failed, NotRun, Unknown}
 use Rattle.pst_runs.specs.Replies.{◌>>=◌, then_more, or_number, listed}
 use Rattle.pst_sexpr.specs.Integers.{are_digits, magnitude, in_u64}
 use Rattle.pst_sexpr.specs.Parts.{and_then, where_true, word_of, node_of}
@@ -48,15 +49,24 @@ at_first = record { invoked = 0; completed = Some 0 }
 abbrev pub is_in_turn : (before next : CallTime) → Bool
 is_in_turn before next = is_timely next && is_over_by before.completed next.invoked
 
--- the time that a tree spells, in its turn
-abbrev pub time_after : CallTime → Form → Option CallTime
-time_after before form = and_then (time_of form) (λ t. where_true (is_in_turn before t) t)
+-- a call of unknown outcome has no completion
+abbrev pub may_have_time : Reply → CallTime → Bool
+may_have_time r t = not (is_unknown r) || is_open t
+
+-- behind a call, the time of a call with the reply
+abbrev pub may_follow : (before : CallTime) → Reply → CallTime → Bool
+may_follow before r t = is_in_turn before t && may_have_time r t
+
+-- the time of a call with the reply that a tree spells, in its turn
+abbrev pub time_after : CallTime → Reply → Form → Option CallTime
+time_after before r form = and_then (time_of form) (λ t. where_true (may_follow before r t) t)
 
 abbrev pub is_called : Reply → Bool
 is_called (Answered v) = true
 is_called Misfit = true
 is_called Failed = true
 is_called NotRun = false
+is_called Unknown = true
 
 -- the times of the called ones of some commands, the first of which has the number; or the number of the first
 -- one whose time is none
@@ -65,7 +75,7 @@ branch_times before number [] forms = Ok []
 branch_times before number (r ∷ rs) [] = Ok []
 branch_times before number (r ∷ rs) (form ∷ forms) =
     if is_called r then
-    or_number number (time_after before form) >>= (λ t. then_more t (branch_times t (number + 1) rs forms))
+    or_number number (time_after before r form) >>= (λ t. then_more t (branch_times t (number + 1) rs forms))
     else branch_times before (number + 1) rs (form ∷ forms)
 
 -- ---- the times of a history

@@ -98,6 +98,7 @@ reply_form (reply.Value v) = value_form v
 reply_form reply.Misfit = Word (codes "misfit")
 reply_form reply.Failed = Word (codes "failed")
 reply_form reply.NotRun = Word (codes "not-run")
+reply_form reply.Unknown = Word (codes "unknown")
 
 -- the replies of a part
 abbrev pub list_form : List Reply → Form

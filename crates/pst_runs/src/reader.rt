@@ -29,7 +29,8 @@ pub enum RunFaultKind {
     NotAFit,
     /// The tree is neither a case nor a run.
     BadForm,
-    /// A branch has another number of times than of calls, or a time is none, or it does not fit the time before it.
+    /// A branch has another number of times than of calls, or a time is none, or it does not fit the time before it, or it
+    /// has a completion although the outcome of its call is unknown.
     BadTimes,
 }
 

@@ -42,6 +42,8 @@ fn read_reply_without_value(form: &Form) -> Option<Reply>
         Some(Reply::Failed)
     } else if word.as_str() == "not-run" {
         Some(Reply::NotRun)
+    } else if word.as_str() == "unknown" {
+        Some(Reply::Unknown)
     } else {
         None
     }

@@ -66,12 +66,19 @@ fn is_in_turn(before: &CallTime, next: &CallTime) -> bool
     next.is_timely() && before.is_over_by(next)
 }
 
-/// The time that a tree spells, if it is in its turn.
-fn time_after(before: &CallTime, form: &Form) -> Option<CallTime>
-    ensures { result ≡ spec.time_after before.now form.now }
+/// Whether a call with the reply may have the time: a call of unknown outcome has no completion.
+fn may_have_time(reply: &Reply, time: &CallTime) -> bool
+    ensures { result ≡ spec.may_have_time reply.now time.now }
+{
+    !reply.is_unknown() || time.completed.is_none()
+}
+
+/// The time of a call with the reply that a tree spells, if it is in its turn.
+fn time_after(before: &CallTime, reply: &Reply, form: &Form) -> Option<CallTime>
+    ensures { result ≡ spec.time_after before.now reply.now form.now }
 {
     let time = read_time(form)?;
-    if is_in_turn(before, &time) {
+    if is_in_turn(before, &time) && may_have_time(reply, &time) {
         Some(time)
     } else {
         None
@@ -82,7 +89,7 @@ fn is_called(reply: &Reply) -> bool
     ensures { result ≡ spec.is_called reply.now }
 {
     match reply {
-        Reply::Value(_) | Reply::Misfit | Reply::Failed => true,
+        Reply::Value(_) | Reply::Misfit | Reply::Failed | Reply::Unknown => true,
         Reply::NotRun => false,
     }
 }
@@ -110,7 +117,7 @@ fn read_remaining_times(
     if !is_called(reply) {
         return read_remaining_times(alloc, before, number + 1, read, replies, forms);
     }
-    let Some(time) = time_after(&before, form) else {
+    let Some(time) = time_after(&before, reply, form) else {
         return Ok(Err(number));
     };
     read.push(time)?;

@@ -2,7 +2,7 @@
 use Rattle.std.specs.Prelude.{◌≡◌, pos, codes, true, ◌⊎◌}
 use Rattle.pst_system.specs.declared.system.RealCall.{RealCall}
 use Rattle.pst_system.specs.declared.system.CallFault.{CallFault}
-use Rattle.pst_system.specs.declared.system.CallFault.TheVariants.{Refused, NoMemory}
+use Rattle.pst_system.specs.declared.system.CallFault.TheVariants.{Refused, NoMemory, OutcomeUnknown}
 use Rattle.pst_value.specs.declared.value.Value.{Value}
 use Rattle.pst_value.specs.declared.value.Value.TheVariants as form
 use Rattle.pst_samples.specs.Calls.{IsBare, IsNumbered, IsMeet, IsInt, IsBool, IsListOfAtMostOneInt}
@@ -41,6 +41,7 @@ registry_answers c v =
 abbrev pub registry_fails : RealCall → CallFault → Type 0
 registry_fails c Refused = IsOfRegistry c → ⊥
 registry_fails c NoMemory = IsOfRegistry c
+registry_fails c OutcomeUnknown = ⊥
 
 -- `queue`: true to `put`, a list of at most one integer to `take`
 abbrev pub queue_answers : RealCall → Value → Type 0
@@ -51,6 +52,7 @@ queue_answers c v =
 abbrev pub queue_fails : RealCall → CallFault → Type 0
 queue_fails c Refused = IsBare (codes "take") c → ⊥
 queue_fails c NoMemory = IsNumbered (codes "put") c ⊎ IsBare (codes "take") c
+queue_fails c OutcomeUnknown = ⊥
 
 -- `meet`: a truth value
 abbrev pub meet_answers : RealCall → Value → Type 0

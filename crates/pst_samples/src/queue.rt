@@ -34,13 +34,14 @@ impl<R: Wait> Queue<R> {
         }
     }
 
-    /// Adds an item at the end. `Refused` if the queue is full, `NoMemory` if an allocation fails.
-    fn put(&self, item: i64) -> Result<(), CallFault> {
+    /// Adds an item at the end, unless the queue is full. Returns whether there was room.
+    fn put(&self, item: i64) -> Result<bool, AllocError> {
         let mut items = self.items.lock(&self.rt);
         if items.len() >= ROOM {
-            return Err(CallFault::Refused);
+            return Ok(false);
         }
-        items.push_back(item).map_err(|_| CallFault::NoMemory)
+        items.push_back(item)?;
+        Ok(true)
     }
 
     /// Takes the oldest item, if there is one.
@@ -79,8 +80,11 @@ impl<R: Wait + Drop + Send + Sync> System for Queue<R> {
             };
         }
         if let Some(item) = sole_integer_argument_of_call(call, "put") {
-            self.put(item)?;
-            return Ok(Value::Bool(true));
+            return match self.put(item) {
+                Ok(true) => Ok(Value::Bool(true)),
+                Ok(false) => Err(CallFault::Refused),
+                Err(AllocError) => Err(CallFault::NoMemory),
+            };
         }
         Err(CallFault::Refused)
     }

@@ -33,7 +33,7 @@ pub use evidence_falsity::{Evidence, FalsePart, false_part_of_postcondition};
 pub use falsity::{Falsity, false_postcondition_text, why_postcondition_is_not_true};
 pub use faulty::{Binding, FaultyPart, bindings_of_environment, faulty_part_of_expression};
 pub use order::{
-    call_numbered, calls_in_interleaving_order, calls_that_may_come_next,
+    call_numbered, calls_along_letters, calls_in_interleaving_order, calls_that_may_come_next,
     count_calls_before_number, first_calls,
 };
 pub use outcome::{DeadEnd, Outcome, dead_end_text, outcome_of_call_on_state};

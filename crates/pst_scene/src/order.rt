@@ -52,6 +52,54 @@ pub fn calls_in_interleaving_order<'a>(
     Ok(order)
 }
 
+/// Returns the call of unknown outcome in the prefix, if there is one.
+fn unknown_call_of_prefix<'a>(calls: &Calls<'a>) -> Option<Call<'a>> {
+    for call in &calls.prefix {
+        if call.has_unknown_outcome() {
+            return Some(*call);
+        }
+    }
+    None
+}
+
+/// Returns the next call with the letter `letter` after `interleaving`, in a run in which calls have unknown outcomes.
+fn next_call_with_letter<'a>(
+    calls: &Calls<'a>,
+    interleaving: &[usize],
+    letter: usize,
+) -> Option<Call<'a>> {
+    match letter {
+        4 => unknown_call_of_prefix(calls),
+        5 => calls
+            .suffix
+            .get(count_branch_in_interleaving(interleaving, letter))
+            .copied(),
+        _ => next_call_of_branch_after_interleaving(calls, interleaving, letter),
+    }
+}
+
+/// Returns the calls of the prefix that answered, and the calls of `interleaving`, in a run in which calls have unknown
+/// outcomes. `counted` has the calls that its interleavings are made of.
+pub fn calls_along_letters<'a>(
+    alloc: Global,
+    counted: &Calls<'a>,
+    interleaving: &[usize],
+) -> Result<Vec<Call<'a>>, AllocError> {
+    let mut order = Vec::new(alloc);
+    for call in &counted.prefix {
+        if !call.has_unknown_outcome() {
+            order.push(*call)?;
+        }
+    }
+    for (index, letter) in interleaving.iter().enumerate() {
+        let before = interleaving.get(..index).unwrap_or(&[]);
+        if let Some(call) = next_call_with_letter(counted, before, *letter) {
+            order.push(call)?;
+        }
+    }
+    Ok(order)
+}
+
 /// Returns the next command of each branch after `interleaving`.
 fn next_call_of_each_branch<'a>(
     alloc: Global,

@@ -98,7 +98,8 @@ fn outcome_by_postcondition_and_next<'a>(
     Ok(Outcome::Refused(DeadEnd::PostFails(falsity)))
 }
 
-/// Returns the outcome of a command on a state: by its postcondition in a recorded run, by its precondition in a case.
+/// Returns the outcome of a command on a state: by its postcondition in a recorded run, by its precondition in a case. A
+/// call of unknown outcome leads to a state unless its `next` faults.
 pub fn outcome_of_call_on_state<'a>(
     alloc: Global,
     scene: &Scene<'a>,
@@ -110,6 +111,7 @@ pub fn outcome_of_call_on_state<'a>(
         Some(Reply::Value(answer)) => outcome_by_postcondition_and_next(
             alloc, scene, state, call, answer,
         ),
+        Some(Reply::Unknown) => outcome_of_next_callback(alloc, scene, state, call),
         Some(_) => Ok(Outcome::Refused(DeadEnd::NoValue)),
     }
 }

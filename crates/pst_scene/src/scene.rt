@@ -20,6 +20,11 @@ pub struct Scene<'a> {
     pub run: &'a Run,
     /// The commands, part by part.
     pub calls: Calls<'a>,
+    /// The commands that an interleaving is made of, part by part: all, unless a call has an unknown outcome. Then they
+    /// are the calls with values, and, except in the suffix, those of unknown outcome.
+    pub counted: Calls<'a>,
+    /// Whether a call has an unknown outcome.
+    pub has_unknown: bool,
     /// The commands, by their numbers.
     pub all: Vec<Call<'a>>,
     /// The recorded results, by the numbers of the commands; empty if there is no history.
@@ -37,6 +42,14 @@ fn recorded_results_of_history(
     }
 }
 
+/// Whether a call of a history, if there is one, has an unknown outcome.
+fn has_call_of_unknown_outcome(history: &Option<History>) -> bool {
+    match history {
+        Some(history) => history.has_unknown(),
+        None => false,
+    }
+}
+
 /// Returns the data of an item of the model `typed`.
 pub fn scene_of_run<'a>(
     alloc: Global,
@@ -48,12 +61,16 @@ pub fn scene_of_run<'a>(
 {
     let model = typed.source();
     let calls = calls_of_case(alloc, run.shaped.case(), &run.history)?;
+    let has_unknown = has_call_of_unknown_outcome(&run.history);
+    let counted = counted_calls(alloc, &calls, has_unknown)?;
     let all = all_calls(alloc, &calls)?;
     let known = recorded_results_of_history(alloc, &run.history)?;
     Ok(Scene {
         model,
         run,
         calls,
+        counted,
+        has_unknown,
         all,
         known,
     })
@@ -204,7 +221,70 @@ fn calls_of_case<'a>(
     }
 }
 
+/// Whether an interleaving of a run has the call. `has_unknown` says whether a call of the run has an unknown outcome.
+fn is_counted(call: &Call<'_>, has_unknown: bool) -> bool {
+    if !has_unknown {
+        return true;
+    }
+    match call.reply {
+        Some(Reply::Value(_)) => true,
+        Some(Reply::Unknown) => call.part != CasePart::Suffix,
+        _ => false,
+    }
+}
+
+/// Returns those of `calls` that an interleaving has.
+fn counted_calls_of_part<'a>(
+    alloc: Global,
+    calls: &[Call<'a>],
+    has_unknown: bool,
+) -> Result<Vec<Call<'a>>, AllocError> {
+    let mut counted = Vec::new(alloc);
+    for call in calls {
+        if is_counted(call, has_unknown) {
+            counted.push(*call)?;
+        }
+    }
+    Ok(counted)
+}
+
+/// Returns those of the commands of a case that an interleaving has.
+fn counted_calls<'a>(
+    alloc: Global,
+    calls: &Calls<'a>,
+    has_unknown: bool,
+) -> Result<Calls<'a>, AllocError> {
+    let mut branches = Vec::new(alloc);
+    for branch in &calls.branches {
+        branches.push(counted_calls_of_part(alloc, branch.as_slice(), has_unknown)?)?;
+    }
+    Ok(Calls {
+        prefix: counted_calls_of_part(alloc, calls.prefix.as_slice(), has_unknown)?,
+        branches,
+        suffix: counted_calls_of_part(alloc, calls.suffix.as_slice(), has_unknown)?,
+    })
+}
+
 impl<'a> Call<'a> {
+    /// Whether nobody knows how the call ended.
+    pub fn has_unknown_outcome(&self) -> bool {
+        matches!(self.reply, Some(Reply::Unknown))
+    }
+
+    /// The letter of the call in an interleaving of a run in which calls have unknown outcomes: its branch, 4 if it is in
+    /// the prefix, and 5 in the suffix. `None` for a call of the prefix that answered, which is before the interleaving.
+    pub fn interleaving_letter(&self) -> Option<usize> {
+        match self.part {
+            CasePart::Prefix => if self.has_unknown_outcome() {
+                Some(4)
+            } else {
+                None
+            },
+            CasePart::Branch(branch) => Some(branch),
+            CasePart::Suffix => Some(5),
+        }
+    }
+
     /// Adds the place of the command, as `P1`, `L2` or `X1`.
     pub fn add_place(&self, out: &mut Vec<u8>) -> Result<(), AllocError> {
         out.push(self.part.letter())?;

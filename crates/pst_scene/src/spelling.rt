@@ -173,6 +173,7 @@ pub fn add_reply_spelling(
         Reply::Misfit => add_str(out, "misfit"),
         Reply::Failed => add_str(out, "failed"),
         Reply::NotRun => add_str(out, "not-run"),
+        Reply::Unknown => add_str(out, "unknown"),
     }
 }
 
@@ -216,13 +217,15 @@ fn add_tree_spellings(out: &mut Vec<u8>, forms: &[Form]) -> Result<(), AllocErro
     Ok(())
 }
 
-/// The letter of a branch, from 0.
+/// The letter of a branch, from 0; of the call of unknown outcome in the prefix, 4, and of a command of the suffix, 5.
 pub fn branch_letter(branch: usize) -> u8 {
     match branch {
         0 => b'L',
         1 => b'R',
         2 => b'S',
-        _ => b'T',
+        3 => b'T',
+        4 => b'P',
+        _ => b'.',
     }
 }
 

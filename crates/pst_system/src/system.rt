@@ -22,6 +22,8 @@ pub enum CallFault {
     Refused,
     /// An allocation of the system failed.
     NoMemory,
+    /// It does not know whether the call took effect, as after a timeout.
+    OutcomeUnknown,
 }
 
 impl CallFault {
@@ -32,6 +34,7 @@ impl CallFault {
         match self {
             CallFault::Refused => "Refused",
             CallFault::NoMemory => "NoMemory",
+            CallFault::OutcomeUnknown => "OutcomeUnknown",
         }
     }
 }

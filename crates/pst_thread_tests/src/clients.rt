@@ -310,11 +310,12 @@ fn a_map_is_read_with_its_keys_in_any_order(rt: HostRuntime) -> Result<(), Fail>
     Ok(())
 }
 
-/// The letter of what a line is at the type `int`: `v` for a value, `f` for failed, `n` for no value.
+/// The letter of what a line is at the type `int`: `v` for a value, `f` for failed, `u` for unknown, `n` for no value.
 fn answer_kind_letter(alloc: Global, line: &str) -> Result<char, AllocError> {
     match client_answer_of_line(alloc, Some(&Ty::Int), line)? {
         ClientAnswer::Value(_) => Ok('v'),
         ClientAnswer::Failed => Ok('f'),
+        ClientAnswer::Unknown => Ok('u'),
         ClientAnswer::NoValue => Ok('n'),
     }
 }
@@ -343,10 +344,13 @@ fn kinds_of_client_lines_are_recognized(rt: HostRuntime) -> Result<(), Fail> {
         "\"a\"",
         "failed",
         "failed: why",
+        "unknown",
+        "unknown timeout",
+        " unknown",
     ];
     assert_eq!(rt;
         answer_kind_letters(rt.alloc(), &lines)?.as_str(),
-        "nnnnnnnnvvff"
+        "nnnnnnnnvvffuun"
     );
     Ok(())
 }

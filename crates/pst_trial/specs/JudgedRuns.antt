@@ -2,7 +2,7 @@
 use Rattle.std.specs.Prelude.{◌≡◌, ◌⊎◌, ℕ, ◌<◌, Bool, true, false, List, [], ◌∷◌, length}
 use Rattle.pst_case.specs.Matches.{matches}
 use Rattle.pst_case.specs.OfModel.{OfModel}
-use Rattle.pst_case.specs.Times.{AreTimed}
+use Rattle.pst_case.specs.Unknown.{times_of_calls}
 use Rattle.pst_case.specs.declared.case.Case.{Case}
 use Rattle.pst_driver.specs.declared.driving.DriveFault.{DriveFault}
 use Rattle.pst_driver.specs.declared.driving.DriveFault.TheVariants.{NoMemory}
@@ -29,7 +29,7 @@ module _ (may_drive : Histories) (m : Source) (order : CallOrder) where
   -- verdict is that of this history by the order
   pub record IsJudgedRun (c : Case) (r : JudgedRun) : Type 0 where
     pub matching : matches m c r.history ≡ true
-    pub timed : AreTimed r.history
+    pub timed : times_of_calls r.history ≡ r.history.times
     pub judged : IsVerdictBy order m c r.history r.verdict
     pub driven : may_drive (record { model = m; case = c }) r.history
 

@@ -1,7 +1,7 @@
 //! What drives the cases of a trial.
 ghost use Rattle.std.specs.Prelude.{◌≡◌, true, IfOk, IfErr};
 ghost use Rattle.pst_case.specs.Matches.{matches};
-ghost use Rattle.pst_case.specs.Times.{AreTimed};
+ghost use Rattle.pst_case.specs.Unknown.{times_of_calls};
 
 use pst_case::History;
 use pst_driver::DriveFault;
@@ -32,7 +32,7 @@ pub trait Driver {
     fn drive(&mut self, alloc: Global, typed: &Typed, valid: &Valid) -> Result<History, DriveFault>
         requires model { valid.now.model ≡ typed.now }
         ensures matches { IfOk result (λ h. matches typed.now valid.now.case h ≡ true) }
-        ensures timed { IfOk result AreTimed }
+        ensures timed { IfOk result (λ h. times_of_calls h ≡ h.times) }
         ensures driven { IfOk result (λ h. may_drive self.old valid.now h) }
         ensures fault { IfErr result (λ f. may_fail self.old valid.now f) }
         ensures keeps { keeps self.old self.new };

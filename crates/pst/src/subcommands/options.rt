@@ -192,6 +192,14 @@ pub fn stream_option<'a>(alloc: Global) -> Result<Arg<'a>, AllocError> {
         .conflicts_with("format")
 }
 
+/// The option that refuses an input without items.
+pub fn require_items_option<'a>(alloc: Global) -> Arg<'a> {
+    Arg::new(alloc, "require-items")
+        .long("require-items")
+        .action(ArgAction::SetTrue)
+        .help("Ends with status 2 if there is no case or run")
+}
+
 /// The option that leaves out the items that are explained or valid.
 pub fn only_failures_option<'a>(alloc: Global) -> Arg<'a> {
     Arg::new(alloc, "failures")
@@ -220,12 +228,34 @@ pub fn max_failures_option<'a>(alloc: Global) -> Arg<'a> {
         .help("Ends the campaign once N trials did not pass; without it all trials run")
 }
 
+/// The maximum number of seconds of a campaign.
+const MOST_SECONDS: u64 = 1_000_000;
+
+/// The option that ends a campaign after some time.
+pub fn seconds_option<'a>(alloc: Global) -> Arg<'a> {
+    Arg::new(alloc, "seconds")
+        .long("seconds")
+        .value_name("N")
+        .value_parser(ValueParser::Unsigned(1, MOST_SECONDS))
+        .allow_negative_numbers(true)
+        .help("Begins no trial after N seconds; without --trials there are then up to 100000")
+}
+
 /// The option that ends a campaign when a file appears.
 pub fn stop_file_option<'a>(alloc: Global) -> Arg<'a> {
     Arg::new(alloc, "stop-file")
         .long("stop-file")
         .value_name("FILE")
-        .help("Ends the campaign, with its report, once there is a FILE; Ctrl-C or TERM makes one")
+        .help("Ends the campaign, with its report, once there is a FILE")
+}
+
+/// The option by which the launcher ends a campaign at a signal.
+pub fn interrupt_file_option<'a>(alloc: Global) -> Arg<'a> {
+    Arg::new(alloc, "interrupt-file")
+        .long("interrupt-file")
+        .value_name("FILE")
+        .help("Ends the campaign once there is a FILE, which the launcher makes at Ctrl-C or TERM")
+        .hide(true)
 }
 
 /// The option that saves failures.

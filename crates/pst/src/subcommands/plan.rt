@@ -6,7 +6,7 @@ ghost use Rattle.pst.specs.Numbers.{GivesCases, GivesTrials, IsRead, LacksCases,
 ghost use Rattle.pst_trial.specs.Settings.{AreInRange};
 
 use crate::subcommands::options::order_for_systems_from_arguments;
-use clap::builder::ValueParser;
+use clap::builder::{ArgPredicate, ValueParser};
 use clap::{Arg, ArgMatches, Command};
 use pst_cli::CallOrder;
 use pst_trial::{
@@ -117,6 +117,23 @@ fn does_plan_number_choose_cases(number: &NumberOption) -> bool {
     matches!(number.name, "seed" | "commands" | "branches" | "suffix")
 }
 
+/// The number of trials of a campaign with `--seconds` and without `--trials`: as many as there may be.
+const TIMED_TRIALS: &str = "100000";
+
+/// The option that gives a number of a campaign's plan. That of the trials has another default if the campaign has a limit of
+/// time.
+fn clap_option_for_plan_number<'a>(
+    alloc: Global,
+    number: &NumberOption,
+) -> Result<Arg<'a>, AllocError> {
+    let option = clap_option_for_number(alloc, number);
+    if number.name == "trials" {
+        option.default_value_if("seconds", ArgPredicate::IsPresent, Some(TIMED_TRIALS))
+    } else {
+        Ok(option)
+    }
+}
+
 /// Adds an option for each number of a campaign's plan.
 pub fn add_campaign_number_options<'a>(
     alloc: Global,
@@ -124,7 +141,7 @@ pub fn add_campaign_number_options<'a>(
 ) -> Result<Command<'a>, AllocError> {
     let mut command = command;
     for number in &PLAN_NUMBERS {
-        command = command.arg(clap_option_for_number(alloc, number))?;
+        command = command.arg(clap_option_for_plan_number(alloc, number)?)?;
     }
     Ok(command)
 }

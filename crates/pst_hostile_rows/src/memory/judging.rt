@@ -97,7 +97,7 @@ pub fn generated_counter_case_text(alloc: Global) -> Result<String, Refused> {
     }
 }
 
-/// Calls `judge_text`, which uses `rejudge`, and returns the lines of the items.
+/// Calls `judge_text`, and returns the lines of the items.
 pub fn judge_output_for_counter_items<R: Threads + Sync>(
     rt: &R,
     alloc: Global,

@@ -156,6 +156,7 @@ fn reply_form(alloc: Global, reply: &Reply) -> Result<Form, AllocError>
         Reply::Misfit => word(alloc, "misfit"),
         Reply::Failed => word(alloc, "failed"),
         Reply::NotRun => word(alloc, "not-run"),
+        Reply::Unknown => word(alloc, "unknown"),
     }
 }
 

@@ -17,7 +17,7 @@ returns-then-is_empty g c =
 pub returns : goal.returns
 returns g c =
     let made = are_made c.in-Ok.systems c.in-Ok.systems.items c.in-Ok.ensures.made refl in
-    let reports = trials_meant _ _ _ c.plain_input-plain.ensures _ _ _ _ _ c.run_campaign_with_progress-status.ensures in
+    let reports = trials_meant _ _ _ c.plain_input-plain.ensures _ _ _ _ _ _ c.run_campaign_with_progress-status.ensures in
     elim c.write_beside_report-beside.ensures [
       | inl a ↦
           let same = is_sent c.run_campaign_with_progress-status.result.0 c.write_beside_report-beside.result _ a c.or_worse.ensures in

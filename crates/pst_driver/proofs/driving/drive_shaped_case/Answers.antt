@@ -20,5 +20,5 @@ call_commands_while_replies_are_values-requires g c = rw c.as_slice.ensures (pre
 pub run_branches_if_prefix_has_values-requires : goal.run_branches_if_prefix_has_values-requires
 run_branches_if_prefix_has_values-requires g c = (search rules, rw c.as_slice-branches.ensures (each_branch_known _ _ c.requires.shaped))
 
-pub run_suffix_if_replies_are_values-requires : goal.run_suffix_if_replies_are_values-requires
-run_suffix_if_replies_are_values-requires g c = rw c.as_slice-3.ensures (suffix_known _ _ c.requires.shaped)
+pub run_suffix_unless_a_call_failed-requires : goal.run_suffix_unless_a_call_failed-requires
+run_suffix_unless_a_call_failed-requires g c = rw c.as_slice-3.ensures (suffix_known _ _ c.requires.shaped)

@@ -6,8 +6,8 @@ use Rattle.pst_driver.proofs.kept.reset_and_drive_case_with_crew.Goals as goal
 pub call_commands_while_replies_are_values-requires : goal.call_commands_while_replies_are_values-requires
 call_commands_while_replies_are_values-requires g c = rw c.as_slice.ensures (prefix_known _ _ c.requires.shaped)
 
-pub run_suffix_if_replies_are_values-requires : goal.run_suffix_if_replies_are_values-requires
-run_suffix_if_replies_are_values-requires g c = rw c.as_slice-4.ensures (suffix_known _ _ c.requires.shaped)
+pub run_suffix_unless_a_call_failed-requires : goal.run_suffix_unless_a_call_failed-requires
+run_suffix_unless_a_call_failed-requires g c = rw c.as_slice-4.ensures (suffix_known _ _ c.requires.shaped)
 
 pub returns-clause-driven : goal.returns-clause-driven
 returns-clause-driven g c = λ same.

@@ -5,13 +5,13 @@ use Rattle.pst_judge.specs.declared.by_order.CallOrder.{CallOrder}
 use Rattle.pst_rejudge.proofs.Collected.{collected}
 use Rattle.pst_rejudge.proofs.Placed.{all_of_zip, if_in_all}
 use Rattle.pst_rejudge.specs.Places.{StandsIn, AreFilled}
-use Rattle.pst_rejudge.specs.declared.parts.JudgedPart.{JudgedPart}
+use Rattle.pst_rejudge.specs.declared.parts.AnsweredPart.{AnsweredPart}
 use Rattle.pst_model.specs.declared.model.Source.{Source}
 use Rattle.pst_rejudge.proofs.parts.read_and_judge_in_parts.Goals as goal
 
 pub returns-in-Ok : goal.returns-in-Ok
 returns-in-Ok g c =
-    let Stand : CallOrder → Source → Bool → List (Bor (List ℕ)) → Vec JudgedPart Global → Type 0 = λ order m keeps parts taken. All (StandsIn order m keeps parts) taken.items in
+    let Stand : CallOrder → Source → Bool → List (Bor (List ℕ)) → Vec AnsweredPart Global → Type 0 = λ order m keeps parts taken. All (StandsIn order m keeps parts) taken.items in
     let keeps = c.args.keeps in
     let order = c.args.judge.now.order in
     let m = c.args.typed.now in
@@ -32,4 +32,4 @@ returns-in-Ok g c =
     let places = c.in_ok-places-in-Ok.places.items in
     let filled = subst (λ l. All (Stand order m keeps l) lists → AreFilled order m keeps l places) c.as_slice.ensures.value (c.in_ok-places-in-Ok.ensures order m keeps) stand in
     if_in_all order m keeps c.args.input.now parts places c.join_places_unless_one_is_empty.result c.in_ok-parts.ensures filled
-    c.join_places_unless_one_is_empty.ensures.all c.join_places_unless_one_is_empty.ensures.runs c.join_places_unless_one_is_empty.ensures.judged
+    c.join_places_unless_one_is_empty.ensures.all c.join_places_unless_one_is_empty.ensures.runs c.join_places_unless_one_is_empty.ensures.answers

@@ -1,7 +1,7 @@
-use Rattle.std.proofs.lemmas.Result.{IfOk-weaker}
+use Rattle.std.proofs.lemmas.Result.{IfOk-weaker, IfErr-weaker}
 use Rattle.pst_judge.proofs.Fitted.{prefix_within, branches_within, suffix_within}
 use Rattle.pst_shrink.specs.declared.shrinking.AttemptOutcome.TheVariants.{Broke}
-use Rattle.pst_trial.specs.Moving.{answer_after}
+use Rattle.pst_trial.specs.Moving.{answer_after, fault_moves}
 use Rattle.pst_trial.proofs.Sounding.{room, tried_moves}
 use Rattle.pst_trial.proofs.trials.drive_case_and_shrink_if_unexplained.Goals as goal
 
@@ -25,3 +25,13 @@ returns-in-Broke-clause-tried g c =
     IfOk-weaker c.shrink_failing_case.result _ _
     (λ o tried. tried_moves _ _ (λ v h. (steady.driving v h).0) c.args.plan.now c.args.valid.case o tried)
     (rw (c.into_case-case.ensures, c.into_shaped.ensures.same) at c.shrink_failing_case.ensures.tried)
+
+pub returns-in-Broke-clause-fault : goal.returns-in-Broke-clause-fault
+returns-in-Broke-clause-fault g c =
+    let steady = g.met.D.Driver.steady _ _ c.in-Ok.ensures.keeps in
+    IfErr-weaker c.shrink_failing_case.result _ _
+    (fault_moves _ _ (λ v f. (steady.failing v f).0)) c.shrink_failing_case.ensures.fault
+
+pub returns-in-Broke-clause-keeps : goal.returns-in-Broke-clause-keeps
+returns-in-Broke-clause-keeps g c =
+    g.met.D.Driver.keeps_trans _ _ _ c.in-Ok.ensures.keeps c.shrink_failing_case.ensures.keeps
