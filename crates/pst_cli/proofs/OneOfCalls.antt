@@ -6,10 +6,10 @@ use Rattle.pst_case.specs.Unknown.{has_unknown}
 use Rattle.pst_case.specs.declared.case.Case.{Case}
 use Rattle.pst_case.specs.declared.history.History.{History}
 use Rattle.pst_case.specs.declared.history.Run.{Run}
-use Rattle.pst_grid.specs.Merges.{IsUpTo, IsLeast, none_done}
+use Rattle.pst_grid.specs.Merges.{none_done}
 use Rattle.pst_grid.specs.Orders.{any_order}
-use Rattle.pst_grid.specs.declared.steps.Ending.TheVariants.{AllTrue, StopsAt}
-use Rattle.pst_grid.specs.declared.steps.StopReason.TheVariants as stop
+use Rattle.pst_grid.specs.declared.steps.Ending.TheVariants.{AllTrue}
+use Rattle.pst_judge.proofs.OneJudgement.{one_least, fault_is}
 use Rattle.pst_judge.specs.ByOrder.{IsVerdictBy}
 use Rattle.pst_judge.specs.Judgement.{IsJudgementOf, IsJudgementBy}
 use Rattle.pst_judge.specs.Replay.{Asking, post_asked}
@@ -22,28 +22,6 @@ use Rattle.pst_judge.specs.declared.judgement.Judged.TheVariants.{Verdict as Tol
 use Rattle.pst_judge.specs.declared.judgement.Verdict.{Verdict}
 use Rattle.pst_judge.specs.declared.judgement.Verdict.TheVariants.{Explained, Faulted, Unexplained, Broken}
 use Rattle.pst_model.specs.declared.model.Source.{Source}
-
--- ---- words
-
-both_ways : (a b : ℕ) (v w : List ℕ) → IsUpTo (a ∷ v) (b ∷ w) → IsUpTo (b ∷ w) (a ∷ v) → (a ≡ b) × IsUpTo v w × IsUpTo w v
-both_ways a b v w (inl p) (inl q) = absurd (omega (arith, p, q))
-both_ways a b v w (inl p) (inr q) = absurd (omega (arith, p, q.0))
-both_ways a b v w (inr p) (inl q) = absurd (omega (arith, p.0, q))
-both_ways a b v w (inr p) (inr q) = (p.0, p.1, q.1)
-
-one_word : (v w : List ℕ) → IsUpTo v w → IsUpTo w v → v ≡ w
-one_word [] [] p q = refl
-one_word [] (b ∷ w) p q = absurd q
-one_word (a ∷ v) [] p q = absurd p
-one_word (a ∷ v) (b ∷ w) p q =
-    let r = both_ways a b v w p q in
-    ap (λ x. x ∷ v) r.0 ∙ ap (λ x. b ∷ x) (one_word v w r.1 r.2)
-
-one_least : (P : List ℕ → Type 0) (v w : List ℕ) → IsLeast P v → IsLeast P w → v ≡ w
-one_least P v w p q = one_word v w (p.1 w q.0) (q.1 v p.0)
-
-fault_is : {F : Type 0} (n k : ℕ) (f g : F) → StopsAt n (stop.Fault f) ≡ StopsAt k (stop.Fault g) → f ≡ g
-fault_is n k f g e = cc
 
 -- ---- verdicts
 

@@ -252,7 +252,7 @@ fn drive_valid_case<R: Threads + Wait>(
     }
 }
 
-/// Returns the item of a case that is not valid, with the reason. `AllocError` if memory is refused.
+/// Returns the item of a case that is not valid, with the reason. `AllocError` means that an allocation failed.
 fn invalid_item(why: Why) -> Result<DrivenItem, AllocError>
     ensures reason { OnOk result (why ≡ reasons.NoMemory → ⊥) }
     ensures item { IfOk result (λ item. item ≡ alone (became.Judged None (kind.Invalid why))) }

@@ -116,7 +116,7 @@ pub struct JudgedFile {
     pub judged: Vec<Judged>,
 }
 
-/// A model, the answers to the items after it, and the runs that are kept of them.
+/// A model, the answers to the items after it, and their runs if they are to be kept.
 #[derive(Drop)]
 struct AnsweredFile {
     /// The model.

@@ -3,7 +3,7 @@ ghost use Rattle.std.specs.Prelude.{◌≡◌, ◌∷◌, [], true, IfOk, MatchO
 ghost use Rattle.std.specs.List.{list_any};
 ghost use Rattle.pst_case.specs.Matches.{replies_of};
 ghost use Rattle.pst_case.specs.Recorded.{recorded, result_of};
-ghost use Rattle.pst_case.specs.Shape.{holds_var, is_forward, joined};
+ghost use Rattle.pst_case.specs.Shape.{joined};
 ghost use Rattle.pst_driver.specs.Driven as spec;
 ghost use Rattle.pst_driver.specs.Driven.{IsLateReply};
 ghost use Rattle.pst_driver.specs.Progress.{LateRuns, SuffixRuns, all_known, calls_known};
@@ -15,7 +15,7 @@ use crate::part::{
     make_call_and_classify_answer, real_call_with_known_results,
 };
 use crate::subject::Subject;
-use pst_case::{Command, History, Reply};
+use pst_case::{BannedVariables, Command, History, Reply, any_holds_banned_variable};
 use pst_model::Typed;
 use pst_value::{Items, Value};
 use std::alloc::{AllocError, Global};
@@ -92,35 +92,6 @@ fn goes_on(reply: &Reply) -> bool
     }
 }
 
-/// Whether a variable is left in `value`.
-#[cycle(has_variable)]
-#[tactic(auto, using(pst_case::proofs::Variables::variables))]
-fn has_variable(value: &Value) -> bool
-    ensures { result ≡ holds_var (is_forward 0) value.now }
-{
-    match value {
-        Value::Int(_) | Value::Bool(_) | Value::Text(_) => false,
-        Value::Tuple(parts) | Value::List(parts) => any_has_variable(parts.as_slice()),
-        Value::Map(_, values) => any_has_variable(values.get().as_slice()),
-        Value::Var(_) => true,
-        Value::Ref(_, inner) => has_variable(inner.get()),
-        Value::Call(_, args) => any_has_variable(args.as_slice()),
-    }
-}
-
-/// Whether a variable is left in one of the values.
-#[cycle(has_variable)]
-fn any_has_variable(values: &[Value]) -> bool
-    ensures { result ≡ list_any (holds_var (is_forward 0)) values.now }
-{
-    for value in values {
-        if has_variable(value) {
-            return true;
-        }
-    }
-    false
-}
-
 /// The reply to a command's call, or `NotRun` if a result that the command needs is missing.
 fn call_command_if_its_results_are_there<S: Subject>(
     alloc: Global,
@@ -140,7 +111,7 @@ fn call_command_if_its_results_are_there<S: Subject>(
         command,
         known,
     )?;
-    if any_has_variable(call.args.as_slice()) {
+    if any_holds_banned_variable(call.args.as_slice(), &BannedVariables::Forward(0)) {
         return Ok(Reply::NotRun);
     }
     Ok(make_call_and_classify_answer(typed, system, site, command, &call))

@@ -1,6 +1,6 @@
 //! The meaning of expressions and its evaluator; the callbacks of a well-typed model, and their plain evaluation;
 //! the laws that evaluating with results in place of variables is evaluating with variables; and how far the value
-//! of an expression can reach, and which names stand in it, by the form of the expression.
+//! of an expression can reach, and which names it uses, by the form of the expression.
 #![tactic(auto)]
 
 mod callbacks;

@@ -1,4 +1,4 @@
-//! Which names stand in expressions.
+//! Which names expressions use.
 ghost use Rattle.std.specs.Prelude.{◌≡◌};
 ghost use Rattle.std.specs.List.{list_any};
 ghost use Rattle.pst_eval.specs.Names as spec;
@@ -6,7 +6,7 @@ ghost use Rattle.pst_eval.specs.Names.{UnnamedResultsChangeNothing, UnnamedResul
 
 use pst_model::{Clause, Expr, Source, operation_of};
 
-/// Whether the name stands in the expression, other than as the name that a form binds. Allocates nothing.
+/// Whether the expression uses the name. A name that a form binds is not used there. Allocates nothing.
 #[cycle(names)]
 #[tactic(auto, using(crate::proofs::Naming::naming))]
 pub fn does_name_stand_in(name: &[u8], expr: &Expr) -> bool
@@ -69,8 +69,8 @@ fn does_name_stand_in_clause(name: &[u8], clause: &Clause) -> bool
     }
 }
 
-/// Whether the next state after a call of an operation depends on its result, by the form of the model: whether `r`
-/// stands in the expression of the state. Operations are numbered from 0. Allocates nothing.
+/// Whether the next state after a call of an operation depends on its result, by the form of the model: whether the
+/// expression of the state uses `r`. Operations are numbered from 0. Allocates nothing.
 pub fn does_next_name_result(model: &Source, op: u32) -> bool
     ensures { result ≡ spec.next_names_result model.now op }
 {

@@ -41,12 +41,12 @@ one_word (a ∷ v) (b ∷ w) p q =
     let r = both_ways a b v w p q in
     ap (λ x. x ∷ v) r.0 ∙ ap (λ x. b ∷ x) (one_word v w r.1 r.2)
 
-one_least : (P : List ℕ → Type 0) (v w : List ℕ) → IsLeast P v → IsLeast P w → v ≡ w
+pub one_least : (P : List ℕ → Type 0) (v w : List ℕ) → IsLeast P v → IsLeast P w → v ≡ w
 one_least P v w p q = one_word v w (p.1 w q.0) (q.1 v p.0)
 
 -- ---- endings
 
-fault_is : {F : Type 0} (n k : ℕ) (f g : F) → StopsAt n (stop.Fault f) ≡ StopsAt k (stop.Fault g) → f ≡ g
+pub fault_is : {F : Type 0} (n k : ℕ) (f g : F) → StopsAt n (stop.Fault f) ≡ StopsAt k (stop.Fault g) → f ≡ g
 fault_is n k f g e = cc
 
 pre_false : (n k : ℕ) → failing.PreFalse n ≡ failing.PreFalse k → n ≡ k

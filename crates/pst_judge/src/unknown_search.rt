@@ -221,7 +221,7 @@ fn split_first_letter(word: &[usize]) -> Option<(&usize, &[usize])>
     word.split_first()
 }
 
-/// How many letters of a word are up to the last call with a value, where so many calls of each column are done.
+/// The number of letters of a word up to the last call with a value. `done` has the number of calls of each column before it.
 fn count_effective_letters(knowns: &[usize], done: &mut [usize], word: &[usize]) -> usize
     requires { (b : ℕ) → slice_index done.old b + length word.now < 2 ^ 64 }
     ensures letters { take result word.now ≡ spec.effective knowns.now done.old word.now }

@@ -25,7 +25,7 @@ use std::alloc::{AllocError, Global};
 use std::sync::atomic::{AtomicUsize, Ordering};
 use std::thread::Threads;
 
-/// The answers to the items of one part of an input, and the runs that are kept of them.
+/// The answers to the items of one part of an input, with the runs to keep.
 #[derive(Drop)]
 pub(crate) struct AnsweredItems {
     /// The runs of the items that are not refused, in the order of the items, if runs are kept.
@@ -37,7 +37,7 @@ pub(crate) struct AnsweredItems {
 /// The answers to the items of an input, and their runs in the parts in which it was read.
 #[derive(Drop)]
 pub struct AnsweredParts {
-    /// The runs that are kept of each part, in the order of the parts.
+    /// The runs to keep of each part, in the order of the parts.
     pub runs: Vec<Vec<Run>>,
     /// The judgement on each item, or why it is refused, in the order of the items.
     pub answers: Vec<ItemResult>,
@@ -112,7 +112,7 @@ pub(crate) struct AnsweredPart {
     pub content: AnsweredItems,
 }
 
-/// Adds the run of an item to those that are kept, if runs are kept and the item is not refused.
+/// Adds the run of an item to those to keep, if `keeps` is set and the item is not refused.
 fn keep_run(keeps: bool, runs: &mut Vec<Run>, run: Option<Run>) -> Result<(), AllocError>
     ensures { OnOk result (runs.new.items ≡ runs.old.items ++ kept_run keeps run) }
 {

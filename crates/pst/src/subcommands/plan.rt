@@ -117,7 +117,7 @@ fn does_plan_number_choose_cases(number: &NumberOption) -> bool {
     matches!(number.name, "seed" | "commands" | "branches" | "suffix")
 }
 
-/// The number of trials of a campaign with `--seconds` and without `--trials`: as many as there may be.
+/// The number of trials of a campaign with `--seconds` and without `--trials`: the greatest that `--trials` takes.
 const TIMED_TRIALS: &str = "100000";
 
 /// The option that gives a number of a campaign's plan. That of the trials has another default if the campaign has a limit of
