@@ -7,12 +7,12 @@ _pst() {
     return
   fi
   case $command in
-    campaign) options="--client --shared --seed --trials --commands --branches --suffix --repeats --workers --limit --order --seconds --max-failures --stop-file --save --html --junit --format --width --output --quiet --help" ;;
+    campaign) options="--client --shared --seed --trials --commands --branches --suffix --repeats --workers --limit --order --burst --seconds --max-failures --stop-file --save --html --junit --format --width --output --quiet --help" ;;
     run) options="--client --shared --branches --repeats --require-items --order --format --width --output --quiet --help" ;;
     judge) options="--keep-going --all-messages --failures --require-items --order --stream --format --output --quiet --help" ;;
     explain) options="--format --dot --all --width --color --item --failures --order --max --output --quiet --help" ;;
     generate) options="--first --trials --seed --commands --branches --suffix --format --output --quiet --help" ;;
-    check) options="--format --output --quiet --help" ;;
+    check) options="--format --output --quiet --unknown --help" ;;
     convert) options="--to --output --quiet --help" ;;
     list) options="--output --quiet --help" ;;
     fmt) options="--check --quiet --help" ;;

@@ -3,7 +3,7 @@ complete -c pst -n __fish_use_subcommand -f -a "campaign run judge explain conve
 complete -c pst -n "__fish_seen_subcommand_from campaign run" -l client -r -d "a command that answers calls"
 complete -c pst -n "__fish_seen_subcommand_from campaign run" -l shared -d "one process has all branches"
 complete -c pst -n "__fish_seen_subcommand_from campaign run" -l branches -x -d "branches that run at once"
-for option in seed trials commands suffix repeats workers limit max-failures seconds
+for option in seed trials commands suffix repeats workers limit burst max-failures seconds
   complete -c pst -n "__fish_seen_subcommand_from campaign" -l $option -x
 end
 complete -c pst -n "__fish_seen_subcommand_from campaign" -l save -r -d "a folder for the failures"

@@ -7,6 +7,7 @@ use crate::systems::{
     ChosenSystems, SystemsError, system_in_box, systems_and_count_from_arguments,
 };
 use clap::ArgMatches;
+use pst_cli::Status;
 use pst_clients::{
     CallPipe, ClientFolder, ClientWaits, Clients, Notes, open_clients, result_types_of_operations,
 };
@@ -56,12 +57,40 @@ pub fn open_boxed_clients_for_worker<H: Wait + Files + Drop, R: Files + AllocGlo
         return Err(SystemsError::NoMemory);
     };
     match open_clients(handle, rt, folder, worker, types, notes) {
-        Ok(clients) => match system_in_box(rt.alloc(), clients) {
+        Ok(clients) => match system_in_box(rt.alloc(), clients.with_bursts(prepared.burst)) {
             Ok(clients) => Ok(clients),
             Err(AllocError) => Err(SystemsError::NoMemory),
         },
         Err(error) if error.kind() == ErrorKind::OutOfMemory => Err(SystemsError::NoMemory),
         Err(error) => Err(SystemsError::NoPipes(error)),
+    }
+}
+
+/// Returns how many times the arguments ask clients to drive a case by themselves; 0 if they do not.
+pub fn burst_from_arguments(matches: &ArgMatches<'_>) -> u32 {
+    let Some(("campaign", arguments)) = matches.subcommand() else {
+        return 0;
+    };
+    let drives: Option<u64> = arguments.get_one("burst");
+    drives.unwrap_or(0) as u32
+}
+
+/// Refuses a burst if no clients are tested: only these drive cases by themselves.
+pub fn refuse_burst_without_clients<R: Eprint>(
+    rt: &R,
+    matches: &ArgMatches<'_>,
+) -> Result<(), Status> {
+    if burst_from_arguments(matches) == 0 {
+        return Ok(());
+    }
+    match systems_and_count_from_arguments(matches) {
+        Some((ChosenSystems::Known(_), _)) => {
+            let _ = eprintln!(rt;
+                "error: --burst goes with --client, as in pst campaign --client ./client.py --burst 100 model"
+            );
+            Err(Status::Refused)
+        }
+        _ => Ok(()),
     }
 }
 
@@ -99,6 +128,10 @@ pub fn print_client_notes_unless_quiet<R: Eprint>(rt: &R, matches: &ArgMatches<'
     }
     if let Ok(text) = notes.text() {
         let _ = eprint!(rt; "{text}");
+    }
+    let drives = notes.burst_drives();
+    if drives > 0 {
+        let _ = eprintln!(rt; "pst: the clients made {drives} drives in bursts");
     }
 }
 

@@ -5,12 +5,13 @@ use clap::ArgMatches;
 use pst_cli::{Absence, Status, refuse_text};
 use pst_messages::{
     MessageScope, input_error_messages_text, input_error_notices, input_warning_notices,
-    input_warnings_text,
+    input_warnings_text, unknown_outcome_warning_notices,
 };
 use pst_rejudge::{Field, FieldName, add_number_field, add_text_field, json_object_line};
 use pst_sexpr::Out;
 use pst_sources::{
     Input, Notice, NoticePlace, Notices, SourceFile, joined_text_of_files, place_of_notice,
+    text_of_notices_if_any,
 };
 use pst_value::Text;
 use std::alloc::{AllocError, Global};
@@ -76,6 +77,42 @@ pub fn print_input_warnings_to_stderr<R: Eprint>(
     input: &[u8],
 ) {
     if let Ok(Some(warnings)) = input_warnings_text(alloc, files, input) {
+        let _ = eprint!(rt; "{warnings}");
+    }
+}
+
+/// Returns the warnings on a model that the arguments of `check` choose.
+fn check_warning_notices(
+    alloc: Global,
+    arguments: &ArgMatches<'_>,
+    input: &Input<'_>,
+) -> Result<Notices, AllocError> {
+    let mut warnings = input_warning_notices(alloc, input)?;
+    if arguments.get_flag("unknown") {
+        let mut more = unknown_outcome_warning_notices(alloc, input)?;
+        warnings.all.append(&mut more.all)?;
+    }
+    Ok(warnings)
+}
+
+/// Returns the warnings on a model that the arguments of `check` choose, for a person to read, or `None` if there are none.
+fn check_warnings_text(
+    alloc: Global,
+    arguments: &ArgMatches<'_>,
+    input: &Input<'_>,
+) -> Result<Option<String>, AllocError> {
+    let warnings = check_warning_notices(alloc, arguments, input)?;
+    text_of_notices_if_any(alloc, input, &warnings)
+}
+
+/// Writes the warnings on a model that the arguments of `check` choose to standard error. If an allocation fails or they
+/// cannot be written, the line and the status remain without them.
+pub fn print_check_warnings_to_stderr<R: Eprint + AllocGlobal>(
+    rt: &R,
+    arguments: &ArgMatches<'_>,
+    input: &Input<'_>,
+) {
+    if let Ok(Some(warnings)) = check_warnings_text(rt.alloc(), arguments, input) {
         let _ = eprint!(rt; "{warnings}");
     }
 }
@@ -159,14 +196,20 @@ fn json_lines_of_notices(
     Ok(text)
 }
 
-/// Returns the objects of the errors of a model, or of the warnings on it if it is accepted, a line each.
+/// Returns the objects of the errors of a model, or of the warnings on it that the arguments choose if it is accepted, a line
+/// each.
 fn json_lines_of_errors_else_warnings(
     alloc: Global,
+    arguments: &ArgMatches<'_>,
     input: &Input<'_>,
 ) -> Result<Vec<u8>, AllocError> {
     let errors = input_error_notices(alloc, input, MessageScope::Model)?;
     if errors.all.is_empty() {
-        json_lines_of_notices(alloc, input, input_warning_notices(alloc, input)?)
+        json_lines_of_notices(
+            alloc,
+            input,
+            check_warning_notices(alloc, arguments, input)?,
+        )
     } else {
         json_lines_of_notices(alloc, input, errors)
     }
@@ -191,7 +234,7 @@ pub fn notices_in_check_output(
     if !is_check_with_json_output(subcommand, arguments) || arguments.get_flag("quiet") {
         return Vec::new(alloc);
     }
-    match json_lines_of_errors_else_warnings(alloc, input) {
+    match json_lines_of_errors_else_warnings(alloc, arguments, input) {
         Ok(lines) => lines,
         Err(AllocError) => Vec::new(alloc),
     }

@@ -25,6 +25,7 @@ pub const CHECK: &str = "\
 Examples:
   pst check cache.model
   pst check - < cache.model
+  pst check --unknown cache.model     also warns of operations after whose calls of unknown outcome a run is broken
 
 A refusal is a line on standard output; standard error says where the model is wrong, as FILE:LINE:COLUMN, and why.
 

@@ -7,7 +7,8 @@ use crate::stop_signals::StopFlag;
 use crate::subcommands::Subcommand;
 use crate::terminal::Terminals;
 use crate::{
-    branches, diagnostics, formatting, generating, input, outputs, page, saving, streaming, systems,
+    branches, clients, diagnostics, formatting, generating, input, outputs, page, saving,
+    streaming, systems,
 };
 use clap::ArgMatches;
 use pst_cli::{Status, refuse_text};
@@ -28,6 +29,8 @@ pub struct PreparedInput<'a> {
     pub notes: SharedClientNotes,
     /// The list of answers of a wrong type, if it is kept.
     pub misfits: Option<SharedMisfits>,
+    /// How many times clients are to drive a case by themselves; 0 if not.
+    pub burst: u32,
 }
 
 impl<'a> PreparedInput<'a> {
@@ -47,6 +50,7 @@ impl<'a> PreparedInput<'a> {
             input,
             notes,
             misfits,
+            burst: clients::burst_from_arguments(matches),
         })
     }
 }
@@ -104,6 +108,7 @@ fn refuse_invalid_arguments<R: Runtime + AllocGlobal>(
         outputs::refuse_to_overwrite_input(rt, inputs, option, name, is_quiet)?;
     }
     saving::refuse_file_as_save_folder(rt, matches)?;
+    clients::refuse_burst_without_clients(rt, matches)?;
     generating::refuse_generate_trial_numbers_that_overflow(rt, matches)?;
     page::refuse_unwritable_files_beside_report(rt, matches)
 }

@@ -207,7 +207,6 @@ fn print_outcome_messages_unless_quiet<R: Eprint + AllocGlobal>(
     {
         return;
     }
-    let Input { files, bytes } = input;
     match status {
         Status::Refused => diagnostics::print_refusal_messages_to_stderr(
             rt,
@@ -215,14 +214,16 @@ fn print_outcome_messages_unless_quiet<R: Eprint + AllocGlobal>(
             arguments,
             context.files,
         ),
-        Status::Accepted if subcommand == "check" => diagnostics::print_input_warnings_to_stderr(
-            rt,
-            rt.alloc(),
-            files,
-            bytes,
-        ),
+        Status::Accepted if subcommand == "check" => {
+            diagnostics::print_check_warnings_to_stderr(rt, arguments, &input)
+        }
         _ => summary::print_note_if_input_has_no_items(
-            rt, subcommand, arguments, bytes, status, counts,
+            rt,
+            subcommand,
+            arguments,
+            input.bytes,
+            status,
+            counts,
         ),
     }
     summary::print_summary_if_several_items(rt, counts);

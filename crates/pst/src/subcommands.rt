@@ -74,7 +74,8 @@ fn clap_command_for_check<'a>(alloc: Global) -> Result<Command<'a>, AllocError> 
         "Checks a model: prints `ok NAME`, or the refusal",
     )?
     .after_help(help::CHECK)
-    .arg(options::text_or_json_format_option(alloc))
+    .arg(options::text_or_json_format_option(alloc))?
+    .arg(options::unknown_outcomes_option(alloc))
 }
 
 /// `list`, with the file of a model.
@@ -139,6 +140,7 @@ fn clap_command_for_campaign<'a>(alloc: Global) -> Result<Command<'a>, AllocErro
         .arg(options::order_option_for_systems(alloc))?
         .arg(options::max_failures_option(alloc))?
         .arg(options::seconds_option(alloc))?
+        .arg(options::burst_option(alloc))?
         .arg(options::stop_file_option(alloc))?
         .arg(options::interrupt_file_option(alloc))?
         .arg(options::save_failures_option(alloc))?

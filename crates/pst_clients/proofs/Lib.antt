@@ -1,2 +1,4 @@
 mod OneLine
 pub mod Sent
+mod Zipping
+mod Said

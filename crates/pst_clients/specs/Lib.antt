@@ -1,4 +1,5 @@
 pub mod Answering
+pub mod Bursting
 pub mod Calling
 pub mod Lines
 pub mod Losing

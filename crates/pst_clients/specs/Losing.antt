@@ -53,18 +53,19 @@ pub data IsLineLoss (may_give : List ℕ → Type 0) (may_fail may_run_ahead may
   no_text : f ≡ Refused → ((line : List ℕ) × may_give line × (¬ IsUtf8 line)) → IsLineLoss may_give may_fail may_run_ahead may_break f
   more_lines : f ≡ Refused → may_run_ahead → IsLineLoss may_give may_fail may_run_ahead may_break f
 
--- why a call is lost, of a worker with so many clients, whose result is wanted to have the type
-pub data IsCallLoss (may_give : List ℕ → Type 0) (may_fail may_run_ahead may_break : Type 0) (clients : ℕ) (t : Option Ty)
+-- why a call is lost, of a worker with so many clients, whose result is wanted to have the type; `is_said` has the texts that a
+-- client says
+pub data IsCallLoss (may_give is_said : List ℕ → Type 0) (may_fail may_run_ahead may_break : Type 0) (clients : ℕ) (t : Option Ty)
     (f : CallFault) : Type 0 where
-  memory : f ≡ NoMemory → IsCallLoss may_give may_fail may_run_ahead may_break clients t f
-  no_client : f ≡ Refused → clients ≤ 3 → IsCallLoss may_give may_fail may_run_ahead may_break clients t f
-  unanswered : IsLineLoss may_give may_fail may_run_ahead may_break f → IsCallLoss may_give may_fail may_run_ahead may_break clients t f
-  failed : f ≡ Refused → ((line : List ℕ) × may_give line × (says_failed line ≡ true))
-      → IsCallLoss may_give may_fail may_run_ahead may_break clients t f
-  unknown : f ≡ OutcomeUnknown → ((line : List ℕ) × may_give line × (says_unknown line ≡ true))
-      → IsCallLoss may_give may_fail may_run_ahead may_break clients t f
-  no_value : f ≡ Refused → ((line : List ℕ) × may_give line × ((v : Value) → ¬ Spells t line v))
-      → IsCallLoss may_give may_fail may_run_ahead may_break clients t f
+  memory : f ≡ NoMemory → IsCallLoss may_give is_said may_fail may_run_ahead may_break clients t f
+  no_client : f ≡ Refused → clients ≤ 3 → IsCallLoss may_give is_said may_fail may_run_ahead may_break clients t f
+  unanswered : IsLineLoss may_give may_fail may_run_ahead may_break f → IsCallLoss may_give is_said may_fail may_run_ahead may_break clients t f
+  failed : f ≡ Refused → ((text : List ℕ) × is_said text × (says_failed text ≡ true))
+      → IsCallLoss may_give is_said may_fail may_run_ahead may_break clients t f
+  unknown : f ≡ OutcomeUnknown → ((text : List ℕ) × is_said text × (says_unknown text ≡ true))
+      → IsCallLoss may_give is_said may_fail may_run_ahead may_break clients t f
+  no_value : f ≡ Refused → ((text : List ℕ) × is_said text × ((v : Value) → ¬ Spells t text v))
+      → IsCallLoss may_give is_said may_fail may_run_ahead may_break clients t f
 
 -- why a reset is lost
 pub data IsResetLoss (may_give : List ℕ → Type 0) (may_fail may_run_ahead may_break : Type 0) (f : CallFault) : Type 0 where

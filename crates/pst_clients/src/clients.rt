@@ -1,6 +1,7 @@
 //! The system of clients.
 ghost use Rattle.std.specs.Prelude.{◌≡◌, ◌≤◌, IfErr, IfOk, MatchResult, option_copied, length, slice_get, string_bytes};
 ghost use Rattle.pst_clients.specs.Answering.{Answered, Spells};
+ghost use Rattle.pst_clients.specs.Bursting.{IsSaid};
 ghost use Rattle.pst_clients.specs.Losing.{IsCallLoss, IsLineLoss, IsResetLoss, fault_of};
 
 use crate::connection::Connection;
@@ -11,7 +12,7 @@ use crate::protocol::{
 };
 use crate::source::{LineSink, LineSource};
 use crate::states::LostAnswer;
-use pst_system::{CallFault, RealCall, System};
+use pst_system::{BurstCase, BurstDrive, CallFault, RealCall, System};
 use pst_value::{Items, Ty, Value};
 use std::alloc::{AllocError, Global};
 use std::rt::Files;
@@ -40,6 +41,10 @@ pub struct Clients<R: Wait, I: LineSource, O: LineSink> {
     pub(crate) results: Items<Ty>,
     pub(crate) connections: Vec<Mutex<Connection<I, O>>>,
     pub(crate) notes: Arc<Notes, Global>,
+    /// How many drives a burst is to have. 0 if the clients are asked for none.
+    pub(crate) drives: u32,
+    /// The number of the last burst.
+    pub(crate) bursts: u64,
 }
 
 /// The place of a branch's client. A worker has at most four branches.
@@ -69,7 +74,17 @@ impl<R: Wait + Files, I: LineSource + Drop, O: LineSink + Drop> Clients<R, I, O>
             results,
             connections: Vec::new(alloc),
             notes,
+            drives: 0,
+            bursts: 0,
         }
+    }
+
+    /// The same clients, asked to drive cases `drives` times by themselves if all say that they do so.
+    pub fn with_bursts(mut self, drives: u32) -> Clients<R, I, O>
+        ensures { result.results ≡ self.results }
+    {
+        self.drives = drives;
+        self
     }
 
     /// Adds the client of the next branch.
@@ -201,16 +216,16 @@ impl<R: Wait + Files, I: LineSource + Drop, O: LineSink + Drop> Clients<R, I, O>
     }
 
     /// The value that a line of a branch's client spells, as the answer to a call. Notes why it spells none.
-    fn value_of_answer(
+    pub(crate) fn value_of_answer(
         &self,
         branch: u32,
         line: &[u8],
         text: &str,
         ty: Option<&Ty>,
     ) -> Result<Value, CallFault>
-        requires { I.may_give text.now }
+        requires { IsSaid I.may_give text.now }
         ensures value { IfOk result (λ v. Spells (option_copied ty.entry) text.now v) }
-        ensures lost { IfErr result (λ f. IsCallLoss I.may_give I.may_fail I.may_run_ahead O.may_break
+        ensures lost { IfErr result (λ f. IsCallLoss I.may_give (IsSaid I.may_give) I.may_fail I.may_run_ahead O.may_break
             (length self.now.connections.items) (option_copied ty.entry) f) }
     {
         match client_answer_of_line(self.alloc, ty, text) {
@@ -241,8 +256,8 @@ impl<R: Wait + Files, I: LineSource + Drop, O: LineSink + Drop> Clients<R, I, O>
         branch: u32,
         call: &RealCall,
     ) -> Result<Value, CallFault>
-        ensures value { IfOk result (λ v. Answered I.may_give self.now.results call.now v) }
-        ensures lost { IfErr result (λ f. IsCallLoss I.may_give I.may_fail I.may_run_ahead O.may_break
+        ensures value { IfOk result (λ v. Answered (IsSaid I.may_give) self.now.results call.now v) }
+        ensures lost { IfErr result (λ f. IsCallLoss I.may_give (IsSaid I.may_give) I.may_fail I.may_run_ahead O.may_break
             (length self.now.connections.items) (slice_get self.now.results call.now.op) f) }
     {
         let Ok(line) = client_call_line(self.alloc, call) else {
@@ -267,9 +282,9 @@ impl<
     I: LineSource + Drop + Send,
     O: LineSink + Drop + Send,
 > System for Clients<R, I, O> {
-    ghost answers = { λ s c v. Answered I.may_give s.results c v };
+    ghost answers = { λ s c v. Answered (IsSaid I.may_give) s.results c v };
 
-    ghost fails = { λ s c f. IsCallLoss I.may_give I.may_fail I.may_run_ahead O.may_break
+    ghost fails = { λ s c f. IsCallLoss I.may_give (IsSaid I.may_give) I.may_fail I.may_run_ahead O.may_break
         (length s.connections.items) (slice_get s.results c.op) f };
 
     ghost reset_fails = { λ _ f. IsResetLoss I.may_give I.may_fail I.may_run_ahead O.may_break f };
@@ -285,5 +300,14 @@ impl<
 
     fn call_from(&self, branch: u32, call: &RealCall) -> Result<Value, CallFault> {
         self.call_client_and_note_bad_answer(branch, call)
+    }
+
+    fn bursts(&self) -> bool {
+        self.do_clients_burst()
+    }
+
+    /// Resets through each client, and then asks all for the burst.
+    fn burst(&mut self, case: &BurstCase) -> Option<Items<BurstDrive>> {
+        self.burst_clients(case)
     }
 }

@@ -233,6 +233,30 @@ impl<I: LineSource, O: LineSink> Connection<I, O> {
         Ok(text)
     }
 
+    /// Whether the client answered its last reset by the word that says that it bursts.
+    pub(crate) fn does_client_burst(&self) -> bool {
+        match &self.reset_answer {
+            Some(answer) => answer.as_str() == "burst",
+            None => false,
+        }
+    }
+
+    /// Sends the line of a burst, whose answer `receive_burst` reads. Nothing is sent to a client that has ended.
+    pub(crate) fn send_burst(&mut self, line: &[u8]) -> Result<(), LostAnswer> {
+        if self.state != ClientState::Open {
+            return Err(LostAnswer::Closed);
+        }
+        self.is_asked = true;
+        self.send_client_line(line)
+    }
+
+    /// The line that answers a burst.
+    pub(crate) fn receive_burst(&mut self) -> Result<String, LostAnswer>
+        ensures given { IfOk result (λ text. I.may_give (string_bytes text)) }
+    {
+        self.receive_answer()
+    }
+
     /// Has a line written after all that the client has printed. Returns whether this could be done.
     ///
     /// The launcher writes it, if it has a pipe for that. Without one this program does, which waits as long as the pipe of

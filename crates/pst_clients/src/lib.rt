@@ -4,6 +4,8 @@
 //! Nothing here starts a client. Each is at the other end of two pipes, which a launcher has made.
 #![tactic(auto)]
 
+mod burst;
+mod bursting;
 mod clients;
 mod connection;
 mod marks;

@@ -102,6 +102,8 @@ pub struct Notes {
     waits: ClientWaits,
     /// How many resets failed since the last one that did not.
     failed_resets: AtomicU64,
+    /// How many drives the bursts of the clients had.
+    burst_drives: AtomicU64,
 }
 
 /// A client by the numbers of its worker and of its branch, both from 0.
@@ -209,7 +211,18 @@ impl Notes {
             lines_too_many: KeptNotes::new(alloc)?,
             waits: ClientWaits::new(alloc)?,
             failed_resets: AtomicU64::new(0),
+            burst_drives: AtomicU64::new(0),
         })
+    }
+
+    /// Counts the drives of a burst.
+    pub(crate) fn count_burst_drives(&self, drives: u64) {
+        self.burst_drives.fetch_add(drives, Ordering::SeqCst);
+    }
+
+    /// How many drives the bursts of the clients had.
+    pub fn burst_drives(&self) -> u64 {
+        self.burst_drives.load(Ordering::SeqCst)
     }
 
     /// Which clients have a line that they have not answered yet.

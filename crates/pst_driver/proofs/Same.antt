@@ -14,13 +14,16 @@ every : {A : Type 0} (P : A → Type 0) → ((x : A) → P x) → (xs : List A) 
 every P f [] = tt
 every P f (x ∷ xs) = (f x, every P f xs)
 
+pub values_exact : (xs ys : List Value) → pointwise same_value xs ys ≡ true → xs ≡ ys
+values_exact xs = lists_exact same_value xs (every _ same_value-exact xs)
+
 abbrev pub same_command : Command → Command → Bool
 same_command a b = nat_eq a.op b.op && pointwise same_value a.args b.args
 
 command_exact : (a : Command) → IsExactAt same_command a
 command_exact a b e =
     let p : a.op ≡ b.op = eqb-true a.op b.op (both_first (nat_eq a.op b.op) _ e) in
-    let q : a.args ≡ b.args = lists_exact same_value a.args (every _ same_value-exact a.args) b.args (both_second (nat_eq a.op b.op) _ e) in
+    let q : a.args ≡ b.args = values_exact a.args b.args (both_second (nat_eq a.op b.op) _ e) in
     λ i. record { op = p i; args = q i }
 
 pub commands_exact : (xs ys : List Command) → pointwise same_command xs ys ≡ true → xs ≡ ys

@@ -13,8 +13,8 @@ use pst_print::ty_form;
 use pst_scene::{
     add_str, add_tree_spelling, add_value_spelling, copy_explanation_text, value_text,
 };
-use pst_system::{CallFault, RealCall, System};
-use pst_value::{Items, Ty, Value, copy_values};
+use pst_system::{BurstCase, BurstDrive, CallEnd, CallFault, RealCall, System};
+use pst_value::{Items, Ty, Value};
 use std::alloc::{AllocError, Global};
 use std::sync::atomic::{AtomicU64, Ordering};
 use std::sync::{Arc, OnceLock};
@@ -42,16 +42,6 @@ pub struct Misfits {
     kept: Vec<OnceLock<Misfit>>,
 }
 
-fn copy_real_call(alloc: Global, call: &RealCall) -> Result<RealCall, AllocError>
-    ensures { IfOk result (λ copy. copy ≡ call.now) }
-{
-    Ok(RealCall {
-        op: call.op,
-        name: call.name.copy(alloc)?,
-        args: copy_values(call.args.as_slice(), alloc)?,
-    })
-}
-
 impl Misfit {
     /// An answer and its call, copied.
     pub fn from_copies(alloc: Global, call: &RealCall, answer: &Value) -> Result<Misfit, AllocError>
@@ -59,7 +49,7 @@ impl Misfit {
         ensures answer { IfOk result (λ misfit. misfit.answer ≡ answer.now) }
     {
         Ok(Misfit {
-            call: copy_real_call(alloc, call)?,
+            call: call.copy(alloc)?,
             answer: answer.copy(alloc)?,
         })
     }
@@ -129,6 +119,19 @@ impl Misfits {
         }
     }
 
+    /// Notes the answers in drives of a burst that are not of the result types of their operations.
+    fn record_misfits_of_drives(&self, drives: &[BurstDrive]) {
+        for drive in drives {
+            for branch in drive.branches.as_slice() {
+                for made in branch.as_slice() {
+                    if let CallEnd::Answered(answer) = &made.end {
+                        self.record_answer_if_misfit(&made.call, answer);
+                    }
+                }
+            }
+        }
+    }
+
     /// The misfit at a place below `MOST_KEPT`, if one is kept there.
     pub fn get(&self, place: usize) -> Option<&Misfit> {
         self.kept.get(place)?.get()
@@ -185,6 +188,18 @@ impl<S: System> System for MisfitRecorder<S> {
             misfits.record_answer_if_misfit(call, &answer);
         }
         Ok(answer)
+    }
+
+    fn bursts(&self) -> bool {
+        self.system.bursts()
+    }
+
+    fn burst(&mut self, case: &BurstCase) -> Option<Items<BurstDrive>> {
+        let drives = self.system.burst(case)?;
+        if let Some(misfits) = &self.misfits {
+            misfits.record_misfits_of_drives(drives.as_slice());
+        }
+        Some(drives)
     }
 }
 

@@ -1,9 +1,12 @@
 //! Systems under test: the calls that they take, what they promise, and boxes of them.
-ghost use Rattle.std.specs.Prelude.{◌≡◌, MatchResult, IfErr};
+ghost use Rattle.std.specs.Prelude.{◌≡◌, All, MatchResult, IfErr, IfOk, IfSome};
+ghost use Rattle.pst_system.specs.Bursts.{IsMadeDrive};
 ghost use Rattle.pst_system.specs.FaultName.{fault_name};
 ghost use Rattle.pst_system.specs.Kept.{AreKept};
 
-use pst_value::{Items, Text, Value};
+use crate::burst::{BurstCase, BurstDrive};
+use pst_value::{Items, Text, Value, copy_values};
+use std::alloc::{AllocError, Global};
 
 /// A call of an operation with plain arguments, which hold no variable and no reference.
 #[derive(Debug, PartialEq, Eq, Drop)]
@@ -13,6 +16,19 @@ pub struct RealCall {
     /// The name of the operation.
     pub name: Text,
     pub args: Items<Value>,
+}
+
+impl RealCall {
+    /// An equal call.
+    pub fn copy(&self, alloc: Global) -> Result<RealCall, AllocError>
+        ensures { IfOk result (λ copy. copy ≡ self.now) }
+    {
+        Ok(RealCall {
+            op: self.op,
+            name: self.name.copy(alloc)?,
+            args: copy_values(self.args.as_slice(), alloc)?,
+        })
+    }
 }
 
 /// Why a system did not answer.
@@ -77,6 +93,23 @@ pub trait System: Drop + Send + Sync {
     {
         self.call(call)
     }
+
+    /// Whether the system drives cases many times by itself.
+    fn bursts(&self) -> bool {
+        false
+    }
+
+    /// Drives a case many times: resets itself, makes the calls of the prefix, those of the branches at once, and those of
+    /// the suffix, and so again. Returns the drives that differ, in the order in which each came first.
+    ///
+    /// `None`: the system does not drive this case by itself, or could not. The three relations stay.
+    fn burst(&mut self, _case: &BurstCase) -> Option<Items<BurstDrive>>
+        ensures made { IfSome result (λ drives. All (IsMadeDrive (answers self.old) (fails self.old)) drives) }
+        ensures kept { AreKept (answers self.new) (answers self.old) (fails self.new) (fails self.old)
+            (reset_fails self.new) (reset_fails self.old) }
+    {
+        None
+    }
 }
 
 /// A boxed system, made by the program or by a test.
@@ -100,4 +133,18 @@ pub fn reset_boxed_system(system: &mut BoxedSystem) -> Result<(), CallFault>
         (reset_fails system.new) (reset_fails system.old) }
 {
     system.reset()
+}
+
+/// Whether the boxed system drives cases many times by itself.
+pub fn does_boxed_system_burst(system: &BoxedSystem) -> bool {
+    system.bursts()
+}
+
+/// Has the boxed system drive a case many times. Returns the drives that differ, or `None` if it does not do so.
+pub fn burst_boxed_system(system: &mut BoxedSystem, case: &BurstCase) -> Option<Items<BurstDrive>>
+    ensures made { IfSome result (λ drives. All (IsMadeDrive (answers system.old) (fails system.old)) drives) }
+    ensures kept { AreKept (answers system.new) (answers system.old) (fails system.new) (fails system.old)
+        (reset_fails system.new) (reset_fails system.old) }
+{
+    system.burst(case)
 }

@@ -1,1 +1,2 @@
 pub mod Sounding
+mod Bursts

@@ -3,6 +3,7 @@ pub mod Settings
 pub mod PlanView
 pub mod Driving
 pub mod JudgedRuns
+pub mod Bursts
 pub mod Sound
 pub mod RecordView
 -- lemmas that the laws of implementations cite

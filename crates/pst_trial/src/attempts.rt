@@ -1,20 +1,109 @@
 //! Drives a case repeatedly, and judges the histories.
-ghost use Rattle.std.specs.Prelude.{◌≡◌, ◌+◌, IfOk, IfErr};
+ghost use Rattle.std.specs.Prelude.{◌≡◌, ◌+◌, ◌∷◌, [], All, IfOk, IfErr, IfSome, MatchOption};
 ghost use Rattle.pst_shrink.specs.Outcomes.{drives};
+ghost use Rattle.pst_trial.specs.Bursts.{IsRunOfBurst};
+ghost use Rattle.pst_trial.specs.Driving.{MayHaveDriven};
 ghost use Rattle.pst_trial.specs.JudgedRuns.{IsJudgedRun, IsAnswer, MayFail};
 
 use crate::driver::Driver;
 use crate::plan::Plan;
 use crate::record::JudgedRun;
-use pst_case::Case;
+use pst_case::{Case, History};
 use pst_driver::DriveFault;
 use pst_gen::valid_case_if_accepted;
 use pst_judge::{Valid, verdict_by};
 use pst_shrink::{Attempt, AttemptOutcome};
 use pst_value::Items;
-use std::alloc::Global;
+use std::alloc::{AllocError, Global};
 
-/// Drives a valid case, and judges what was recorded by the order of the plan's settings.
+/// Judges a history that a driver may record of a valid case, by the order of the plan's settings.
+fn judge_driven_history<D: Driver>(
+    alloc: Global,
+    plan: &Plan,
+    _driver: &D,
+    valid: &Valid,
+    history: History,
+) -> Result<JudgedRun, AllocError>
+    requires model { valid.now.model ≡ plan.now.model }
+    requires driven { MayHaveDriven (D.may_drive _driver.now) valid.now history }
+    ensures history { IfOk result (λ run. run.history ≡ history) }
+    ensures run { IfOk result (IsJudgedRun (D.may_drive _driver.now) plan.now.model plan.now.settings.order
+        valid.now.case) }
+{
+    let order = plan.settings().order;
+    let verdict = verdict_by(plan.compiled(), order, alloc, valid.shaped(), &history)?;
+    Ok(JudgedRun { history, verdict })
+}
+
+fn split_first_history(histories: &[History]) -> Option<(&History, &[History])>
+    ensures { MatchOption result (histories.now ≡ []) (λ p. histories.now ≡ p.0.now ∷ p.1.now) }
+{
+    histories.split_first()
+}
+
+/// The first of some histories that a driver may record of a valid case, and the others.
+fn split_driven<'a, D: Driver>(
+    _driver: &D,
+    _valid: &Valid,
+    histories: &'a [History],
+) -> Option<(&'a History, &'a [History])>
+    requires { All (MayHaveDriven (D.may_drive _driver.now) _valid.now) histories.now }
+    ensures parts { MatchOption result (histories.now ≡ []) (λ p. histories.now ≡ p.0.now ∷ p.1.now) }
+    ensures first { IfSome result (λ p. MayHaveDriven (D.may_drive _driver.now) _valid.now p.0.now) }
+    ensures rest { IfSome result (λ p. All (MayHaveDriven (D.may_drive _driver.now) _valid.now) p.1.now) }
+{
+    split_first_history(histories)
+}
+
+/// Returns the run of a burst that counts: that of the first history that is not explained, or of the last if all are.
+fn judge_burst<D: Driver>(
+    alloc: Global,
+    plan: &Plan,
+    driver: &D,
+    valid: &Valid,
+    first: &History,
+    rest: &[History],
+) -> Result<JudgedRun, AllocError>
+    requires model { valid.now.model ≡ plan.now.model }
+    requires first { MayHaveDriven (D.may_drive driver.now) valid.now first.now }
+    requires rest { All (MayHaveDriven (D.may_drive driver.now) valid.now) rest.now }
+    ensures run { IfOk result (IsJudgedRun (D.may_drive driver.now) plan.now.model plan.now.settings.order
+        valid.now.case) }
+    ensures counts { IfOk result (IsRunOfBurst plan.now.model plan.now.settings.order valid.now.case
+        (first.now ∷ rest.now)) }
+{
+    let run = judge_driven_history(alloc, plan, driver, valid, first.copy(alloc)?)?;
+    if !run.is_explained() {
+        return Ok(run);
+    }
+    match split_driven(driver, valid, rest) {
+        Some((next, rest)) => judge_burst(alloc, plan, driver, valid, next, rest),
+        None => Ok(run),
+    }
+}
+
+/// Has the system drive a valid case many times by itself, and judges the run that counts. `None` if it does not do so.
+fn burst_and_judge_case<D: Driver>(
+    alloc: Global,
+    plan: &Plan,
+    driver: &D,
+    valid: &Valid,
+) -> Result<Option<JudgedRun>, AllocError>
+    requires model { valid.now.model ≡ plan.now.model }
+    ensures { IfOk result (λ found. IfSome found (IsJudgedRun (D.may_drive driver.now) plan.now.model
+        plan.now.settings.order valid.now.case)) }
+{
+    let Some(histories) = driver.burst(alloc, plan.typed(), valid)? else {
+        return Ok(None);
+    };
+    match split_driven(driver, valid, histories.as_slice()) {
+        Some((first, rest)) => Ok(Some(judge_burst(alloc, plan, driver, valid, first, rest)?)),
+        None => Ok(None),
+    }
+}
+
+/// Drives a valid case, and judges what was recorded by the order of the plan's settings. If the system drives it many times
+/// by itself, the run that counts is judged.
 fn drive_and_judge_case_once<D: Driver>(
     alloc: Global,
     plan: &Plan,
@@ -27,6 +116,9 @@ fn drive_and_judge_case_once<D: Driver>(
     ensures fault { IfErr result (MayFail (D.may_fail driver.old)) }
     ensures keeps { D.keeps driver.old driver.new }
 {
+    if let Some(run) = burst_and_judge_case(alloc, plan, driver, valid)? {
+        return Ok(run);
+    }
     let history = match driver.drive(alloc, plan.typed(), valid) {
         Ok(history) => history,
         Err(fault) => return Err(fault),

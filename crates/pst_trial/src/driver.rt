@@ -1,13 +1,15 @@
 //! What drives the cases of a trial.
-ghost use Rattle.std.specs.Prelude.{◌≡◌, true, IfOk, IfErr};
+ghost use Rattle.std.specs.Prelude.{◌≡◌, true, All, IfOk, IfErr, IfSome};
 ghost use Rattle.pst_case.specs.Matches.{matches};
 ghost use Rattle.pst_case.specs.Unknown.{times_of_calls};
+ghost use Rattle.pst_trial.specs.Driving.{MayHaveDriven};
 
 use pst_case::History;
 use pst_driver::DriveFault;
 use pst_judge::Valid;
 use pst_model::Typed;
-use std::alloc::Global;
+use pst_value::Items;
+use std::alloc::{AllocError, Global};
 
 /// Drives valid cases and records their histories, such as with threads on a system.
 ///
@@ -36,6 +38,20 @@ pub trait Driver {
         ensures driven { IfOk result (λ h. may_drive self.old valid.now h) }
         ensures fault { IfErr result (λ f. may_fail self.old valid.now f) }
         ensures keeps { keeps self.old self.new };
+
+    /// Has the system drive a valid case of the model many times by itself. Returns the histories that differ, in the order
+    /// in which each came first, or `None` if it does not do so. A driver need not have such a system.
+    fn burst(
+        &self,
+        _alloc: Global,
+        _typed: &Typed,
+        _valid: &Valid,
+    ) -> Result<Option<Items<History>>, AllocError>
+        requires model { _valid.now.model ≡ _typed.now }
+        ensures driven { IfOk result (λ found. IfSome found (All (MayHaveDriven (may_drive self.now) _valid.now))) }
+    {
+        Ok(None)
+    }
 
     /// A shrink candidate of the trial is driven next, after this number of others. A driver may say so to somebody.
     fn note_next_candidate(&self, _driven: u64) {}

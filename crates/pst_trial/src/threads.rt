@@ -14,12 +14,14 @@ use crate::shrinking::ShrinkProgress;
 use crate::trials::run_trial_with_driver;
 use pst_case::History;
 use pst_driver::{
-    Crew, DriveFault, Relations, Subject, drive_case_with_crew_and_check, run, run_timed,
+    Crew, DriveFault, Relations, Subject, burst_case_with_crew, drive_case_with_crew_and_check,
+    run, run_timed,
 };
 use pst_judge::{CallOrder, Valid};
 use pst_model::Typed;
 use pst_system::{BoxedSystem, System};
-use std::alloc::Global;
+use pst_value::Items;
+use std::alloc::{AllocError, Global};
 use std::sync::{Arc, Wait};
 use std::thread::Threads;
 
@@ -177,6 +179,15 @@ impl<'r, 'c, 's, J: Relations, S: Subject, R: Wait> Driver for CrewDriver<'r, 'c
         valid: &Valid,
     ) -> Result<History, DriveFault> {
         drive_case_with_crew_and_check(self.rt, alloc, self.crew, typed, valid)
+    }
+
+    fn burst(
+        &self,
+        alloc: Global,
+        typed: &Typed,
+        valid: &Valid,
+    ) -> Result<Option<Items<History>>, AllocError> {
+        burst_case_with_crew(self.rt, alloc, self.crew, typed, valid)
     }
 
     fn note_next_candidate(&self, driven: u64) {

@@ -241,6 +241,19 @@ pub fn seconds_option<'a>(alloc: Global) -> Arg<'a> {
         .help("Begins no trial after N seconds; without --trials there are then up to 100000")
 }
 
+/// The maximum number of drives of a burst.
+const MOST_BURST: u64 = 1_000;
+
+/// The option that has clients drive cases many times by themselves.
+pub fn burst_option<'a>(alloc: Global) -> Arg<'a> {
+    Arg::new(alloc, "burst")
+        .long("burst")
+        .value_name("N")
+        .value_parser(ValueParser::Unsigned(0, MOST_BURST))
+        .allow_negative_numbers(true)
+        .help("With --client: has clients that burst drive a case N times by themselves")
+}
+
 /// The option that ends a campaign when a file appears.
 pub fn stop_file_option<'a>(alloc: Global) -> Arg<'a> {
     Arg::new(alloc, "stop-file")
@@ -282,6 +295,16 @@ pub fn line_width_option<'a>(alloc: Global) -> Arg<'a> {
         .value_name("N")
         .value_parser(ValueParser::Unsigned(LEAST_WIDTH, MOST_WIDTH))
         .help("The width of lines, from 20 to 1000; else that of COLUMNS, or 80")
+}
+
+/// The option of `check` that names the operations after whose calls of unknown outcome a run is broken.
+pub fn unknown_outcomes_option<'a>(alloc: Global) -> Arg<'a> {
+    Arg::new(alloc, "unknown")
+        .long("unknown")
+        .action(ArgAction::SetTrue)
+        .help(
+            "Warns of each operation whose `next` uses `r`: a run with a call of it of unknown outcome is broken",
+        )
 }
 
 /// The option that keeps standard error empty.

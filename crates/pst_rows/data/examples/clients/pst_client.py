@@ -1,8 +1,13 @@
-"""Tests a Python object whose methods several threads call at once.
+"""Tests a Python object whose methods several threads call at once, or a system that several processes call.
 
-`check` is for the tests of pytest and unittest. `serve` makes a client for `pst campaign --shared --client`.
+`check` is for the tests of pytest and unittest. `serve` makes a client for `pst campaign --shared --client`, and `serve_branch` one for
+`pst campaign --client`. Both make bursts (docs/clients.md).
 """
-import json, os, pathlib, random, shutil, subprocess, sys, tempfile, threading, time, traceback
+import json, mmap, os, pathlib, random, shutil, subprocess, sys, tempfile, threading, time, traceback
+
+
+class Unknown(Exception):
+    """A call raises this if nobody knows whether it took effect, as after a timeout."""
 
 
 def yields(frame, event, arg):
@@ -12,17 +17,142 @@ def yields(frame, event, arg):
     return yields
 
 
-def answer_to(line, call):
-    """Returns the line that answers a call, which `call(name, arguments)` makes."""
-    name, *arguments = json.loads(line)
-    try:
-        sys.settrace(yields)
-        answer = call(name, arguments)
-        sys.settrace(None)
-        return json.dumps(answer)
-    except Exception as error:
-        sys.settrace(None)
-        return f"failed: {error!r}".replace("\n", " ")
+class BurstEnds(Exception):
+    """The burst of a branch ends before the drive that the branch is in."""
+
+
+class Gate:
+    """The words by which the branches of a worker wait for each other in a burst, in a file that several processes have."""
+
+    END = 2**32 - 1  # the step of a branch that has ended its burst
+
+    def __init__(self, branches, memory):
+        self.branches, self.words = range(1, branches + 1), memoryview(memory).cast("Q")
+
+    def set(self, branch, burst, step):
+        """Says that a branch has come to a step."""
+        self.words[8 * branch] = (burst << 32) + step
+
+    def part(self, branch):
+        """Moves this process to another processor than those of the other branches. It may move again, but a busy system would leave all on one."""
+        allowed = sorted(os.sched_getaffinity(0))
+        os.sched_setaffinity(0, {allowed[(int(os.environ.get("PST_WORKER", 0)) * len(self.branches) + branch) % len(allowed)]})
+        os.sched_setaffinity(0, allowed)
+
+    def wait(self, branches, burst, step):
+        """Waits until these branches have come to a step. Raises BurstEnds if one of them has ended the burst, or after two seconds."""
+        begun = time.monotonic()
+        for branch in branches:
+            while self.words[8 * branch] < (burst << 32) + step:
+                waited = time.monotonic() - begun
+                if waited > 2:
+                    raise BurstEnds
+                if waited > 0.00001:  # the other one may wait for this processor
+                    os.sched_yield() if waited < 0.001 else time.sleep(0.00005)
+            if self.words[8 * branch] >= (burst << 32) + self.END:
+                raise BurstEnds
+
+
+class GateOfThreads(Gate):
+    """The same for threads of this process. They do not spin, since that would keep Python's lock from each other."""
+
+    def __init__(self, branches):
+        super().__init__(branches, bytearray(4096))
+        self.changed = threading.Condition()
+
+    def part(self, branch):
+        pass
+
+    def set(self, branch, burst, step):
+        with self.changed:
+            super().set(branch, burst, step)
+            self.changed.notify_all()
+
+    def wait(self, branches, burst, step):
+        with self.changed:
+            if not self.changed.wait_for(lambda: all(self.words[8 * branch] >= (burst << 32) + step for branch in branches), 2):
+                raise BurstEnds
+        super().wait(branches, burst, step)
+
+
+class Branch:
+    """A branch, which answers the lines of its calls. `call(name, arguments)` makes a call, under a function of `sys.settrace`."""
+
+    def __init__(self, number, gate, call, trace=None):
+        self.number, self.gate, self.call, self.trace = number, gate, call, trace
+
+    def answer(self, line):
+        """Returns the line that answers a line."""
+        words = json.loads(line)
+        if words[0] == "burst" and [type(word) for word in words[1:]] == [int, int, list, list, list]:
+            return self.burst(*words[1:])
+        answer = self.make(words)
+        return "burst" if words == ["reset"] and self.gate and not self.fails(answer) else answer
+
+    def make(self, words):
+        """Makes a call, and returns the line that answers it."""
+        try:
+            sys.settrace(self.trace)
+            answer = self.call(words[0], words[1:])
+            sys.settrace(None)
+            return json.dumps(answer)
+        except Exception as error:
+            sys.settrace(None)
+            return f"{'unknown' if isinstance(error, Unknown) else 'failed'}: {error!r}".replace("\n", " ")
+
+    @staticmethod
+    def fails(answer):
+        return answer.startswith(("failed", "unknown"))
+
+    def make_all(self, calls):
+        """Makes calls up to one that fails, and returns an answer for each, None if it was not made."""
+        answers = [None] * len(calls)
+        for at, words in enumerate(calls):
+            answers[at] = self.make(words)
+            if self.fails(answers[at]):
+                break
+        return answers
+
+    def burst(self, burst, drives, *parts):
+        """Makes the drives of a burst, and returns the line with the number of each one's answers, and each list of answers once."""
+        if not self.gate or not 1 <= drives <= 1000 or not 0 < burst < 2**32:
+            return "failed: this burst cannot be made"
+        calls, places, lists, size = json.dumps(parts), [], {}, 10
+        try:
+            self.gate.set(self.number, burst, 0)
+            for at in range(drives):
+                if at % 16 == 0:
+                    self.gate.part(self.number)
+                text = json.dumps(self.drive(burst, 3 * at, *json.loads(calls)), separators=",:")  # a system may change its arguments
+                size += 6 + (len(text) if text not in lists else 0)
+                if size > 1000000:
+                    raise BurstEnds
+                places.append(lists.setdefault(text, len(lists)))
+        except BurstEnds:
+            self.gate.set(self.number, burst, Gate.END)
+        return f"[{','.join([json.dumps(places, separators=',:'), *lists])}]"
+
+    def drive(self, burst, step, prefix, branch, suffix):
+        """Makes a drive: a reset after that of the branch before, the prefix, the branch at the same time as the others, the suffix."""
+        is_first, everyone = self.number == 1, self.gate.branches
+        self.gate.wait(everyone if is_first else [self.number - 1], burst, step if is_first else step + 1)
+        reset = self.make(["reset"])
+        if self.fails(reset):
+            raise BurstEnds
+        self.gate.set(self.number, burst, step + 1)
+        if is_first:
+            self.gate.wait(everyone, burst, step + 1)
+        prefix = self.make_all(prefix)
+        if any(answer is None or self.fails(answer) for answer in prefix):
+            raise BurstEnds
+        self.gate.set(self.number, burst, step + 2)
+        self.gate.wait(everyone, burst, step + 2)
+        branch = self.make_all(branch)
+        self.gate.set(self.number, burst, step + 3)
+        if is_first:
+            self.gate.wait(everyone, burst, step + 3)
+        has_failed = any(answer and answer.startswith("failed") for answer in branch)
+        return prefix + branch + ([None] * len(suffix) if has_failed else self.make_all(suffix))
 
 
 class Systems:
@@ -32,7 +162,7 @@ class Systems:
         self.make_system = make_system
         self.system = None
 
-    def answer_branch(self, pipes, number):
+    def answer_branch(self, pipes, number, gate):
         """Answers the lines of a branch until they end."""
         def call(name, arguments):
             if name != "reset":
@@ -41,14 +171,16 @@ class Systems:
                 self.system = self.make_system()
             return True
 
+        branch = Branch(number, gate, call, yields)
         with open(f"{pipes}-{number}.calls") as asked, open(f"{pipes}-{number}.answers", "w") as answers:
             for line in asked:
-                print(answer_to(line, call), file=answers, flush=True)
+                print(branch.answer(line), file=answers, flush=True)
 
     def start(self, pipes, branches):
         """Starts a thread for each branch, and returns the threads."""
+        gate = GateOfThreads(branches)
         threads = [
-            threading.Thread(target=self.answer_branch, args=(pipes, number), name=f"branch {number}", daemon=True) for number in range(1, branches + 1)
+            threading.Thread(target=self.answer_branch, args=(pipes, number, gate), name=f"branch {number}", daemon=True) for number in gate.branches
         ]
         for thread in threads:
             thread.start()
@@ -61,6 +193,17 @@ def serve(make_system):
         sys.exit(f"PST_PIPES is not set: run this client by pst campaign --client 'python3 {sys.argv[0]}' --shared")
     for thread in Systems(make_system).start(os.environ["PST_PIPES"], int(os.environ["PST_BRANCHES"])):
         thread.join()
+
+
+def serve_branch(calls):
+    """Answers the calls of the branch of this process: `calls` has a function for each operation, by its name, and one for `reset`."""
+    gate = None
+    if "PST_GATE" in os.environ:
+        with open(os.environ["PST_GATE"], "r+b") as file:
+            gate = Gate(int(os.environ["PST_BRANCHES"]), mmap.mmap(file.fileno(), 4096))
+    branch = Branch(int(os.environ["PST_BRANCH"]), gate, lambda name, arguments: calls[name](*arguments))
+    for line in sys.stdin:
+        print(branch.answer(line), flush=True)
 
 
 def find_program():

@@ -1,6 +1,6 @@
 # Tests an object whose methods several threads call at once.
 #
-# `Pst.check` is for the tests of minitest and others. `Pst.serve` makes a client for `pst campaign --shared --client`.
+# `Pst.check` is for the tests of minitest and others. `Pst.serve` makes a client for `pst campaign --shared --client`. Both make bursts (docs/clients.md).
 require "json"
 require "open3"
 require "tmpdir"
@@ -9,6 +9,109 @@ module Pst
   # Lets other threads run between two lines of the system, every other time. Without it Ruby's lock hides most races.
   def self.yields(&call)
     TracePoint.new(:line) { sleep 0.0001 if rand < 0.5 }.enable(target_thread: Thread.current, &call)
+  end
+
+  # The burst of a branch ends before the drive that it is in.
+  class BurstEnds < StandardError; end
+
+  # The words by which the branches of a worker wait for each other in a burst. They do not spin, since that would keep Ruby's lock from each other.
+  class Gate
+    ENDED = 2**32 - 1 # the step of a branch that has ended its burst
+    attr_reader :branches
+
+    def initialize(branches)
+      @branches, @words, @lock, @changed = (1..branches), Hash.new(0), Mutex.new, ConditionVariable.new
+    end
+
+    def set(branch, burst, step)
+      @lock.synchronize do
+        @words[branch] = (burst << 32) + step
+        @changed.broadcast
+      end
+    end
+
+    # Waits until branches have come to a step. Raises BurstEnds if one of them has ended the burst, or after two seconds.
+    def wait(branches, burst, step)
+      ends = now + 2
+      @lock.synchronize do
+        until branches.all? { |branch| @words[branch] >= (burst << 32) + step }
+          raise BurstEnds if now > ends
+          @changed.wait(@lock, ends - now + 0.01)
+        end
+        raise BurstEnds if branches.any? { |branch| @words[branch] >= (burst << 32) + ENDED }
+      end
+    end
+
+    def now = Process.clock_gettime(Process::CLOCK_MONOTONIC)
+  end
+
+  # A branch, which answers its lines. The block makes a call, and returns the line that answers it.
+  class Branch
+    def initialize(number, gate, &make)
+      @number, @gate, @make = number, gate, make
+    end
+
+    # Returns the line that answers a line.
+    def answer(line)
+      words = JSON.parse(line)
+      return burst(*words[1..]) if words.size == 6 && ["burst", Integer, Integer, Array, Array, Array].zip(words).all? { |kind, word| kind === word }
+      answer = @make.call(words)
+      words == ["reset"] && outcome?(answer) ? "burst" : answer
+    end
+
+    private
+
+    def failed?(answer) = answer.start_with?("failed")
+    def outcome?(answer) = !answer.start_with?("failed", "unknown")
+
+    # Makes the drives of a burst, and returns the line with the number of each one's answers, and each list of answers once.
+    def burst(burst, drives, *parts)
+      return "failed: this burst cannot be made" unless drives.between?(1, 1000) && burst.between?(1, Gate::ENDED)
+      calls, places, lists, size = JSON.generate(parts), [], {}, 10
+      begin
+        @gate.set(@number, burst, 0)
+        drives.times do |at|
+          list = JSON.generate(drive(burst, 3 * at, *JSON.parse(calls))) # a system may change its arguments
+          size += 5 + (lists.key?(list) ? 0 : list.bytesize + 1)
+          raise BurstEnds if size > 1_000_000
+          places << (lists[list] ||= lists.size)
+        end
+      rescue BurstEnds
+        @gate.set(@number, burst, Gate::ENDED)
+      end
+      "[#{[JSON.generate(places), *lists.keys].join(",")}]"
+    end
+
+    # Makes calls up to one that has no outcome, and returns an answer for each, nil if it was not made.
+    def make_all(calls)
+      answers = []
+      calls.each do |words|
+        answers << @make.call(words)
+        break unless outcome?(answers.last)
+      end
+      answers + [nil] * (calls.size - answers.size)
+    end
+
+    # Makes a drive: a reset after that of the branch before, the prefix, the branch at the same time as the others, the suffix.
+    def drive(burst, step, prefix, branch, suffix)
+      wait_if_first(burst, step)
+      @gate.wait([@number - 1], burst, step + 1) if @number > 1
+      raise BurstEnds unless outcome?(@make.call(["reset"]))
+      @gate.set(@number, burst, step + 1)
+      wait_if_first(burst, step + 1)
+      before = make_all(prefix)
+      raise BurstEnds unless before.all? { |answer| answer && outcome?(answer) }
+      @gate.set(@number, burst, step + 2)
+      @gate.wait(@gate.branches, burst, step + 2)
+      own = make_all(branch)
+      @gate.set(@number, burst, step + 3)
+      wait_if_first(burst, step + 3)
+      before + own + (own.compact.any? { |answer| failed?(answer) } ? [nil] * suffix.size : make_all(suffix))
+    end
+
+    def wait_if_first(burst, step)
+      @gate.wait(@gate.branches, burst, step) if @number == 1
+    end
   end
 
   # Returns the line that answers a call of a system.
@@ -20,15 +123,15 @@ module Pst
 
   # Answers the lines of all branches, and returns their threads. Each reset of branch 1 makes a new system.
   def self.start(pipes, branches, make_system)
-    system = nil
-    (1..branches).map do |branch|
+    system, gate = nil, Gate.new(branches)
+    (1..branches).map do |number|
+      branch = Branch.new(number, gate) do |(name, *arguments)|
+        system = make_system.call if name == "reset" && number == 1
+        name == "reset" ? "true" : answer_to(name, arguments, system)
+      end
       Thread.new do
-        calls, answers = File.open("#{pipes}-#{branch}.calls"), File.open("#{pipes}-#{branch}.answers", "w")
-        calls.each_line do |line|
-          name, *arguments = JSON.parse(line)
-          system = make_system.call if name == "reset" && branch == 1
-          answers.syswrite(name == "reset" ? "true\n" : "#{answer_to(name, arguments, system)}\n")
-        end
+        calls, answers = File.open("#{pipes}-#{number}.calls"), File.open("#{pipes}-#{number}.answers", "w")
+        calls.each_line { |line| answers.syswrite("#{branch.answer(line)}\n") }
       end
     end
   end

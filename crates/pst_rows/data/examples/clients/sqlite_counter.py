@@ -1,6 +1,7 @@
 #!/usr/bin/env python3
 """A client of examples/counter.model: a number in an SQLite file, incremented by one statement, or by two (--racy)."""
-import json, os, sqlite3, sys, tempfile
+import os, sqlite3, sys, tempfile
+from pst_client import serve_branch
 
 file = sqlite3.connect(f"{tempfile.gettempdir()}/pst-{os.environ['PST_WORKER']}.db", isolation_level=None, timeout=10)
 file.execute("pragma synchronous = off")
@@ -23,7 +24,4 @@ def inc():
     return n
 
 
-calls = {"reset": reset, "inc": inc, "get": get}
-for line in sys.stdin:
-    name, *args = json.loads(line)
-    print(json.dumps(calls[name](*args)), flush=True)
+serve_branch({"reset": reset, "inc": inc, "get": get})

@@ -1,4 +1,5 @@
 //! Tests an object that several threads use: `check` is for `cargo test`, `serve` for `pst campaign --shared --client`.
+mod burst;
 mod json;
 pub use json::Json;
 use std::{collections::BTreeMap, env, fs, fs::File, io::*, panic, process, sync::RwLock, thread};
@@ -12,20 +13,25 @@ pub trait System: Send + Sync + 'static {
 /// Answers the calls of all branches, each in a thread, until they end. Branch 1 makes a new system at each reset.
 fn answer_branches<S: System>(pipes: &str, branches: usize, make_system: fn() -> S) {
     let system = &RwLock::new(make_system());
-    let answer_branch = move |branch| -> Result<()> {
-        let calls = BufReader::new(File::open(format!("{pipes}-{branch}.calls"))?);
-        let mut answers = File::options().write(true).open(format!("{pipes}-{branch}.answers"))?;
-        for line in calls.lines() {
-            let words = json::read_items(&mut line?[1..].chars().peekable(), json::read).unwrap_or_default();
-            let call = panic::AssertUnwindSafe(|| match &words[..] {
+    let gate = &burst::Gate::new(branches);
+    let answer_branch = move |number| -> Result<()> {
+        let calls = BufReader::new(File::open(format!("{pipes}-{number}.calls"))?);
+        let mut answers = File::options().write(true).open(format!("{pipes}-{number}.answers"))?;
+        let make = |words: &[Json]| {
+            let call = panic::AssertUnwindSafe(|| match words {
                 [Json::Text(name)] if name == "reset" => {
-                    (branch == 1).then(|| *system.write().unwrap() = make_system());
+                    (number == 1).then(|| *system.write().unwrap() = make_system());
                     Json::Bool(true)
                 }
                 [Json::Text(name), arguments @ ..] => system.read().unwrap().call(name, arguments),
                 _ => panic!("this is no call"),
             });
-            write!(answers, "{}", panic::catch_unwind(call).map_or("failed: it panicked\n".into(), |it| format!("{it:?}\n")))?;
+            panic::catch_unwind(call).map_or("failed: it panicked".into(), |it| format!("{it:?}"))
+        };
+        let branch = burst::Branch { number, gate, make };
+        for line in calls.lines() {
+            let words = json::read_items(&mut line?[1..].chars().peekable(), json::read).unwrap_or_default();
+            write!(answers, "{}\n", branch.answer(&words))?;
         }
         Ok(())
     };
