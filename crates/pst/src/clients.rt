@@ -72,7 +72,7 @@ pub fn burst_from_arguments(matches: &ArgMatches<'_>) -> u32 {
         return 0;
     };
     let drives: Option<u64> = arguments.get_one("burst");
-    drives.unwrap_or(0) as u32
+    u32::try_from(drives.unwrap_or(0)).unwrap_or(0)
 }
 
 /// Refuses a burst if no clients are tested: only these drive cases by themselves.
