@@ -29,7 +29,7 @@ fn write_calls(writer: &mut Writer<Global>, calls: &[RealCall]) -> Result<(), Al
     writer.end_array()
 }
 
-/// The line that asks the client of `branch` for a burst: `["burst",NUMBER,DRIVES,PREFIX,BRANCH,SUFFIX]`, and a line end. Only
+/// The line that begins a burst of the client of `branch`: `["burst",NUMBER,DRIVES,PREFIX,BRANCH,SUFFIX]`, and a line end. Only
 /// the first client makes the calls of the prefix and of the suffix.
 pub(crate) fn burst_line(
     alloc: Global,

@@ -27,7 +27,7 @@ fn split_first_part<'v, 'j>(parts: &'v [Json<'j>]) -> Option<(&'v Json<'j>, &'v 
 }
 
 impl<R: Wait + Files, I: LineSource + Drop, O: LineSink + Drop> Clients<R, I, O> {
-    /// Whether clients are asked for bursts, and each said at its last reset that it makes them.
+    /// Whether bursts are wanted, and each client said at its last reset that it makes them.
     pub(crate) fn do_clients_burst(&self) -> bool {
         if self.drives == 0 {
             return false;

@@ -41,7 +41,7 @@ pub struct Clients<R: Wait, I: LineSource, O: LineSink> {
     pub(crate) results: Items<Ty>,
     pub(crate) connections: Vec<Mutex<Connection<I, O>>>,
     pub(crate) notes: Arc<Notes, Global>,
-    /// How many drives a burst is to have. 0 if the clients are asked for none.
+    /// The number of drives of a burst. 0 if no bursts are wanted.
     pub(crate) drives: u32,
     /// The number of the last burst.
     pub(crate) bursts: u64,
@@ -306,7 +306,7 @@ impl<
         self.do_clients_burst()
     }
 
-    /// Resets through each client, and then asks all for the burst.
+    /// Resets through each client, and then has all of them burst.
     fn burst(&mut self, case: &BurstCase) -> Option<Items<BurstDrive>> {
         self.burst_clients(case)
     }

@@ -40,7 +40,7 @@ pub trait Driver {
         ensures keeps { keeps self.old self.new };
 
     /// Has the system drive a valid case of the model many times by itself. Returns the histories that differ, in the order
-    /// in which each came first, or `None` if it does not do so. A driver need not have such a system.
+    /// in which each came first, or `None` if it does not do so. A driver without such a system returns `None`.
     fn burst(
         &self,
         _alloc: Global,
