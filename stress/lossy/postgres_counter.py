@@ -1,12 +1,13 @@
 #!/usr/bin/env python3
-"""A client of examples/counter.model: a number in PostgreSQL, behind the bad network of proxy.py (at port LOSSY_PORT). A call has 50 ms, and then its outcome is unknown.
+"""A client of examples/counter.model: a number in PostgreSQL, behind the bad network of proxy.py (at port LOSSY_PORT). A call has LOSSY_SECONDS, else
+50 ms, and then its outcome is unknown.
 
 Each reset begins a new row, so that a call that lands late changes the number of its own run. With --racy a call reads the number, and writes it later. The tables are
 `runs (worker, run)`, with a row for each worker, and `counters (worker, run, n)`.
 """
 import json, os, psycopg2, psycopg2.extensions, select, sys, time
 
-LIMIT = 0.05  # seconds
+LIMIT = float(os.environ.get("LOSSY_SECONDS", 0.05))
 worker = int(os.environ["PST_WORKER"])
 limit = 10
 

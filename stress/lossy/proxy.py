@@ -1,14 +1,15 @@
 #!/usr/bin/env python3
 """A bad network before a server on the loopback address: `proxy.py PORT SERVER SHARE [FIRST]`.
 
-SHARE is the share of calls that it spoils: half of them reach the server 100 ms late, and of the others the answer is dropped. With FIRST only requests that begin
-with it are calls, so that a connection can be made.
+SHARE is the share of calls that it spoils: half of them reach the server late, by twice the time that the client has for a call (LOSSY_SECONDS, else 50 ms),
+and of the others the answer is dropped. With FIRST only requests that begin with it are calls, so that a connection can be made.
 """
 import asyncio
+import os
 import random
 import sys
 
-DELAY = 0.1  # seconds
+DELAY = 2 * float(os.environ.get("LOSSY_SECONDS", 0.05))
 port, server, share = int(sys.argv[1]), int(sys.argv[2]), float(sys.argv[3])
 first = sys.argv[4].encode() if len(sys.argv) > 4 else b""
 

@@ -1,11 +1,12 @@
 #!/usr/bin/env python3
-"""A client of examples/counter.model: a number in Redis, behind the bad network of proxy.py (at port LOSSY_PORT). A call has 50 ms, and then its outcome is unknown.
+"""A client of examples/counter.model: a number in Redis, behind the bad network of proxy.py (at port LOSSY_PORT). A call has LOSSY_SECONDS, else
+50 ms, and then its outcome is unknown.
 
 Each reset begins a new key, so that a call that lands late changes the number of its own run. With --racy a call gets the number, and sets it later.
 """
 import json, os, redis, sys
 
-LIMIT = 0.05  # seconds
+LIMIT = float(os.environ.get("LOSSY_SECONDS", 0.05))
 worker = os.environ["PST_WORKER"]
 direct = redis.Redis()
 lossy = redis.Redis(port=int(os.environ["LOSSY_PORT"]), socket_timeout=LIMIT)

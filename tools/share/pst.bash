@@ -7,8 +7,8 @@ _pst() {
     return
   fi
   case $command in
-    campaign) options="--client --shared --seed --trials --commands --branches --suffix --repeats --workers --limit --order --burst --seconds --max-failures --stop-file --save --html --junit --format --width --output --quiet --help" ;;
-    run) options="--client --shared --branches --repeats --require-items --order --format --width --output --quiet --help" ;;
+    campaign) options="--client --shared --client-end --call-seconds --call-end --settle --run-numbers --seed --trials --commands --branches --suffix --repeats --workers --limit --order --burst --seconds --max-failures --stop-file --save --html --junit --format --width --output --quiet --help" ;;
+    run) options="--client --shared --client-end --call-seconds --call-end --settle --run-numbers --branches --repeats --require-items --order --format --width --output --quiet --help" ;;
     judge) options="--keep-going --all-messages --failures --require-items --order --stream --format --output --quiet --help" ;;
     explain) options="--format --dot --all --width --color --item --failures --order --max --output --quiet --help" ;;
     generate) options="--first --trials --seed --commands --branches --suffix --format --output --quiet --help" ;;
@@ -21,6 +21,7 @@ _pst() {
   esac
   case ${COMP_WORDS[COMP_CWORD - 1]} in
     --color) COMPREPLY=($(compgen -W "auto always never" -- "$word")) && return ;;
+    --client-end | --call-end) COMPREPLY=($(compgen -W "failed unknown" -- "$word")) && return ;;
     --order) COMPREPLY=($(compgen -W "time none" -- "$word")) && return ;;
     --format)
       local forms="text json"

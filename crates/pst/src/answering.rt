@@ -5,8 +5,8 @@ ghost use Rattle.pst_cli.specs.Commands.{IsMeant};
 
 use crate::item_progress::ProgressDisplay;
 use pst_cli::{
-    CallOrder, Destinations, ExplainOptions, ItemForm, OutputForm, Status, check_model,
-    convert_items, draw_item, explain_items, generate_cases, list_model,
+    Attendant, CallOrder, Destinations, ExplainOptions, ItemForm, ItemResultCounts, OutputForm,
+    Status, check_model, convert_items, draw_item, explain_items, generate_cases, list_model,
 };
 use pst_input::InputText;
 use pst_sexpr::Sink;
@@ -48,11 +48,13 @@ pub enum InputCommand<'a> {
 }
 
 /// Writes the output of a command for an input, and returns its status.
-pub fn answer_input_command<
-    F: Sink,
-    W: Sink,
-    R: Threads + Wait + Sync + Eprint + AllocGlobal + Copy + Drop + Send + 'static,
->(rt: &R, command: InputCommand<'_>, input: &InputText<'_>, to: &mut Destinations<F, W>) -> Status
+fn answer_input_command<F: Sink, W: Sink, R: Threads + Wait + Sync + AllocGlobal, A: Attendant>(
+    rt: &R,
+    command: InputCommand<'_>,
+    input: &InputText<'_>,
+    attendant: &mut A,
+    to: &mut Destinations<F, W>,
+) -> Status
     requires trials { HasTrials command }
     requires stands { Stands F.broken W.broken to.old }
     ensures { Reaches (memory_text command.entry) (IsMeant (IsInputAnswer command.entry) input.now)
@@ -60,26 +62,59 @@ pub fn answer_input_command<
 {
     let alloc = rt.alloc();
     match command {
-        InputCommand::Check { form, notices } => check_model(alloc, input, form, notices, to),
-        InputCommand::ListCode => list_model(alloc, input, to),
-        InputCommand::Convert(form) => convert_items(alloc, input, form, to),
+        InputCommand::Check { form, notices } => check_model(
+            alloc, input, form, notices, attendant, to,
+        ),
+        InputCommand::ListCode => list_model(alloc, input, attendant, to),
+        InputCommand::Convert(form) => convert_items(alloc, input, form, attendant, to),
         InputCommand::Generate {
             form,
             settings,
             first,
             count,
         } => generate_cases(rt, alloc, input, form, settings, first, count, to),
-        InputCommand::Explain {
-            options,
-            has_progress_line,
-        } => {
-            let mut display = ProgressDisplay::of_items(rt, alloc, has_progress_line, "explained");
-            explain_items(rt, alloc, input, options, &mut display, to)
-        }
+        InputCommand::Explain { options, .. } => explain_items(
+            rt, alloc, input, options, attendant, to,
+        ),
         InputCommand::Draw {
             order,
             item,
             is_whole,
-        } => draw_item(rt, alloc, input, order, item, is_whole, to),
+        } => draw_item(rt, alloc, input, order, item, is_whole, attendant, to),
     }
+}
+
+/// Returns whether a line on standard error displays the progress of a command.
+fn has_progress_line(command: InputCommand<'_>) -> bool {
+    match command {
+        InputCommand::Explain {
+            has_progress_line,
+            ..
+        } => has_progress_line,
+        _ => false,
+    }
+}
+
+/// Writes the output of a command for an input, and returns its status. `counts` keeps what the input is refused for, if it is.
+pub fn answer_with_progress<
+    F: Sink,
+    W: Sink,
+    R: Threads + Wait + Sync + Eprint + AllocGlobal + Copy + Drop + Send + 'static,
+>(
+    rt: &R,
+    command: InputCommand<'_>,
+    input: &InputText<'_>,
+    counts: &mut ItemResultCounts,
+    to: &mut Destinations<F, W>,
+) -> Status
+    requires trials { HasTrials command }
+    requires stands { Stands F.broken W.broken to.old }
+    ensures { Reaches (memory_text command.entry) (IsMeant (IsInputAnswer command.entry) input.now)
+        (Delivers F.taken F.broken W.taken W.broken to.old to.new result) }
+{
+    let is_displayed = has_progress_line(command);
+    let mut display = ProgressDisplay::of_items(rt, rt.alloc(), is_displayed, "explained");
+    let status = answer_input_command(rt, command, input, &mut display, to);
+    counts.refusal = display.refusal();
+    status
 }

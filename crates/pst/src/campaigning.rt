@@ -14,7 +14,9 @@ use crate::preparing::SubcommandContext;
 use crate::running::{SystemsResult, systems_or_absence};
 use crate::saving::FailureSaver;
 use crate::stop_signals::StopFlag;
-use crate::subcommands::{Subcommand, campaign_settings_from_arguments};
+use crate::subcommands::{
+    Subcommand, campaign_settings_from_arguments, client_options_from_arguments,
+};
 use crate::systems::system_name_from_arguments_or_empty;
 use crate::{diagnostics, failure_explanations, outputs, page};
 use clap::ArgMatches;
@@ -27,7 +29,7 @@ use pst_sexpr::Sink;
 use pst_sources::{Input, SourceFile};
 use pst_system::{BoxedSystem, System};
 use pst_trial::Settings;
-use std::alloc::AllocError;
+use std::alloc::{AllocError, Global};
 use std::rt::Files;
 use std::sync::Wait;
 use std::thread::Threads;
@@ -170,6 +172,32 @@ fn print_messages_on_campaign<R: Eprint + AllocGlobal>(
     }
 }
 
+/// Returns whether some failure of a campaign is unexplained. If an allocation fails, none is.
+fn has_unexplained_failure(alloc: Global, end: &CampaignEnd) -> bool {
+    let Ok(failures) = end.distinct_failures(alloc) else {
+        return false;
+    };
+    failures.iter().any(|numbered| numbered.failure.verdict.starts_with("unexplained"))
+}
+
+/// Writes to standard error that a call may have taken effect in a later run, if some trial is unexplained, a call of the
+/// campaign had an unknown outcome or ended its client, and no reset waited for it.
+fn print_note_if_call_may_be_late<R: Eprint + AllocGlobal>(
+    rt: &R,
+    context: SubcommandContext<'_, '_>,
+    end: &CampaignEnd,
+) {
+    if !context.notes.has_call_that_may_be_late()
+        || client_options_from_arguments(context.matches).settle_milliseconds > 0
+        || !has_unexplained_failure(rt.alloc(), end)
+    {
+        return;
+    }
+    let _ = eprintln!(rt;
+        "pst: a call of unknown outcome may have taken effect in a later run: let a reset make a new state, or wait with --settle 1"
+    );
+}
+
 /// Writes what a campaign came to: its files; if `has_messages`, messages on standard error; and the failures in a folder.
 fn write_end_of_campaign<R: Eprint + Files + AllocGlobal>(
     rt: &R,
@@ -184,6 +212,7 @@ fn write_end_of_campaign<R: Eprint + Files + AllocGlobal>(
     let written = write_files_if_wanted(rt, campaign, input.files, end);
     if has_messages {
         print_messages_on_campaign(rt, campaign, input, end, context.line_width);
+        print_note_if_call_may_be_late(rt, context, end);
     }
     let is_quiet = context.arguments.get_flag("quiet");
     let saved = save_failures_if_wanted(rt, campaign.saver, end, is_quiet);

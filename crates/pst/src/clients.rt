@@ -9,7 +9,8 @@ use crate::systems::{
 use clap::ArgMatches;
 use pst_cli::Status;
 use pst_clients::{
-    CallPipe, ClientFolder, ClientWaits, Clients, Notes, open_clients, result_types_of_operations,
+    CallPipe, ClientFolder, ClientOptions, ClientWaits, Clients, Notes, open_clients,
+    result_types_of_operations,
 };
 use pst_typing::load;
 use pst_value::{Items, Ty};
@@ -28,36 +29,52 @@ pub fn new_client_notes(alloc: Global) -> Result<SharedClientNotes, AllocError> 
     Ok(Arc::new(alloc, Notes::new(alloc)?)?)
 }
 
-/// Returns the result types of the operations of the model at the beginning of `input`. There are no types if it cannot
-/// be loaded; such a model is refused before anything is called.
-fn operation_result_types_if_model_loads(
+/// Returns the result types of the operations of the model at the beginning of `input`, if the arguments name clients, which
+/// are called for them. There are no types if the model cannot be loaded; it is refused before anything is called.
+pub fn result_types_for_clients(
     alloc: Global,
+    matches: &ArgMatches<'_>,
     input: &[u8],
 ) -> Result<Items<Ty>, AllocError> {
+    let Some((ChosenSystems::Clients(_), _)) = systems_and_count_from_arguments(matches) else {
+        return Ok(Items::new(alloc));
+    };
     match load(alloc, input)? {
         Ok(file) => result_types_of_operations(alloc, file.typed.source().items.as_slice()),
         Err(_) => Ok(Items::new(alloc)),
     }
 }
 
+/// Returns a copy of types.
+fn copy_of_types(alloc: Global, types: &[Ty]) -> Result<Items<Ty>, AllocError> {
+    let mut copy = Items::new(alloc);
+    for ty in types {
+        copy.push(ty.copy(alloc)?)?;
+    }
+    Ok(copy)
+}
+
 /// Opens the clients of worker number `worker`, from 0, whose pipes are in `folder`, and puts them into a box. They
-/// answer calls of the model at the beginning of the input.
+/// answer calls of the model at the beginning of the input, and do what `options` say.
 pub fn open_boxed_clients_for_worker<H: Wait + Files + Drop, R: Files + AllocGlobal>(
     handle: H,
     rt: &R,
     folder: ClientFolder<'_>,
     worker: u64,
+    options: ClientOptions,
     prepared: &PreparedInput<'_>,
 ) -> Result<Box<Clients<H, BufReader<R::File>, CallPipe<R::File>>>, SystemsError> {
-    let input = prepared.input.plain();
     let (Ok(types), Ok(notes)) = (
-        operation_result_types_if_model_loads(rt.alloc(), input),
+        copy_of_types(rt.alloc(), prepared.result_types.as_slice()),
         Arc::try_clone(&prepared.notes),
     ) else {
         return Err(SystemsError::NoMemory);
     };
     match open_clients(handle, rt, folder, worker, types, notes) {
-        Ok(clients) => match system_in_box(rt.alloc(), clients.with_bursts(prepared.burst)) {
+        Ok(clients) => match system_in_box(
+            rt.alloc(),
+            clients.with_options(options).with_bursts(prepared.burst),
+        ) {
             Ok(clients) => Ok(clients),
             Err(AllocError) => Err(SystemsError::NoMemory),
         },

@@ -2,16 +2,17 @@
 
 use crate::subcommands::is_json_selected;
 use clap::ArgMatches;
-use pst_cli::{Absence, Status, refuse_text};
+use pst_cli::{Absence, InputRefusal, ItemResultCounts, Status, refuse_text};
+use pst_input::InputText;
 use pst_messages::{
-    MessageScope, input_error_messages_text, input_error_notices, input_warning_notices,
-    input_warnings_text, unknown_outcome_warning_notices,
+    MessageScope, RefusedItems, input_error_messages_text, input_error_notices,
+    input_warning_notices, input_warnings_text, refused_items_messages_text,
+    refused_model_messages_text, unknown_outcome_warning_notices,
 };
 use pst_rejudge::{Field, FieldName, add_number_field, add_text_field, json_object_line};
 use pst_sexpr::Out;
 use pst_sources::{
-    Input, Notice, NoticePlace, Notices, SourceFile, joined_text_of_files, place_of_notice,
-    text_of_notices_if_any,
+    Input, Notice, NoticePlace, Notices, SourceFile, place_of_notice, text_of_notices_if_any,
 };
 use pst_value::Text;
 use std::alloc::{AllocError, Global};
@@ -47,24 +48,50 @@ fn print_that_item_number_is_missing<R: Eprint>(rt: &R, arguments: &ArgMatches<'
     }
 }
 
-/// Writes the messages on the refusals of an input to standard error, for the command `subcommand`. If an allocation fails or
-/// a message cannot be written, the lines of the refusals and the status remain without it.
+/// Writes messages to standard error. It does nothing if an allocation for them failed, and ignores failures to write.
+pub fn print_messages_if_any<R: Eprint>(rt: &R, messages: Result<Option<String>, AllocError>) {
+    if let Ok(Some(messages)) = messages {
+        let _ = eprint!(rt; "{messages}");
+    }
+}
+
+/// The messages on what the whole input is refused for.
+fn refusal_messages(
+    alloc: Global,
+    input: &InputText<'_>,
+    scope: MessageScope,
+    refusal: InputRefusal,
+) -> Result<Option<String>, AllocError> {
+    match refusal {
+        InputRefusal::Model(refusal) => refused_model_messages_text(alloc, input, scope, refusal),
+        InputRefusal::Item(fault) => {
+            refused_items_messages_text(alloc, input, &RefusedItems::one(alloc, fault)?)
+        }
+    }
+}
+
+/// Writes the messages on the refusals of an input to standard error, for the command `subcommand`: on what `counts` says that the
+/// whole input is refused for, or else on what is found to be refused. It writes none on items that `counts` counts as refused: they have
+/// theirs. If an allocation fails or a message cannot be written, the lines of the refusals and the status remain without it.
 pub fn print_refusal_messages_to_stderr<R: Eprint + AllocGlobal>(
     rt: &R,
     subcommand: &str,
     arguments: &ArgMatches<'_>,
-    files: &[SourceFile<'_>],
+    input: &InputText<'_>,
+    counts: &ItemResultCounts,
 ) {
+    let alloc = rt.alloc();
     let scope = message_scope_of_subcommand(subcommand, arguments);
-    let Ok(text) = joined_text_of_files(rt.alloc(), files) else {
+    if let Some(refusal) = counts.refusal {
+        print_messages_if_any(rt, refusal_messages(alloc, input, scope, refusal));
         return;
-    };
-    match input_error_messages_text(rt.alloc(), files, text.as_slice(), scope) {
-        Ok(Some(message)) => {
-            let _ = eprint!(rt; "{message}");
-        }
+    }
+    if counts.refused > 0 {
+        return;
+    }
+    match input_error_messages_text(alloc, input.files(), input.bytes(), scope) {
         Ok(None) if subcommand == "explain" => print_that_item_number_is_missing(rt, arguments),
-        _ => {}
+        messages => print_messages_if_any(rt, messages),
     }
 }
 

@@ -103,6 +103,7 @@ pub fn drive_with_messages<
     set_model_of_misfits_if_it_loads(alloc, misfits, input);
     let mut display = ProgressDisplay::of_items(rt, alloc, context.terminals.errors, "run");
     let status = drive_items(rt, alloc, input, system, options, counts, &mut display, to);
+    counts.refusal = display.refusal();
     if !outputs::has_output_failed(to) {
         print_misfits_to_stderr(rt, alloc, misfits);
         explain_first_broken_run_and_count_rest(

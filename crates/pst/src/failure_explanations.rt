@@ -7,10 +7,13 @@ use crate::systems::sample_calls;
 use pst_case::{Case, Command, History, Reply};
 use pst_cli::{
     CallOrder, CampaignEnd, KnownSystem, LostTrials, TrialFailure,
-    compile_model_and_explain_failed_run, explain_failure,
+    compile_model_and_explain_failed_run, explain_failure, judge_recorded_run,
 };
 use pst_driver::has_only_value_replies;
+use pst_eval::Callback;
+use pst_judge::{Judged, Verdict};
 use pst_messages::{explanation_why_trial_has_no_case, model_beginning_after_call};
+use pst_model::Typed;
 use pst_trial::Settings;
 use pst_value::Items;
 use std::alloc::{AllocError, Global};
@@ -55,8 +58,18 @@ fn print_lost_trials<R: Eprint>(rt: &R, lost: &LostTrials) {
     let _ = eprintln!(rt; "{rest}");
 }
 
+/// Writes to standard error how many trials had calls of unknown outcome, if any had.
+fn print_count_of_unknown_outcomes<R: Eprint>(rt: &R, end: &CampaignEnd) {
+    let count = end.count_trials_with_unknown_outcomes();
+    if count > 0 {
+        let ended = end.count_ended_trials();
+        let _ = eprintln!(rt; "pst: {count} of {ended} trials had calls of unknown outcome");
+    }
+}
+
 /// Writes to standard error why no interleaving explains the smallest failure of a campaign, if it has a failure; why the
-/// first trial without a case has none, if there is such a trial; and how many trials were lost. `sample` is the system, if
+/// first trial without a case has none, if there is such a trial; and how many trials were lost, or had calls of unknown
+/// outcome. `sample` is the system, if
 /// it is a sample. Lines of explanations have at most `line_width` bytes. If an allocation fails or the text cannot be
 /// written, the report and the status remain without it.
 pub fn print_campaign_explanations_to_stderr<R: Eprint>(
@@ -84,10 +97,8 @@ pub fn print_campaign_explanations_to_stderr<R: Eprint>(
             print_lost_trials(rt, lost);
         }
     }
+    print_count_of_unknown_outcomes(rt, end);
 }
-
-/// The words of an explanation of one wrong answer.
-const ONE_WRONG: &str = "This answer cannot be right";
 
 /// The note on a wrong answer.
 const NOTE: &str = "  The first call is already wrong in the initial state of the model. Are `init`
@@ -110,12 +121,6 @@ const IN_TURN_NOTE: &str =
   Has each worker (PST_WORKER) a system of its own? Do all clients of a worker
   use this system, or does each keep a state for itself?
 ";
-
-/// The first words of an explanation of a fault.
-const FAULT: &str = "  The callback ";
-
-/// The first words of an explanation of a postcondition that faults.
-const POST_FAULT: &str = "  The callback post of ";
 
 /// The note on a postcondition that faults.
 const FAULT_NOTE: &str =
@@ -198,14 +203,12 @@ fn case_and_history_of_one_command(
     Ok((case, history))
 }
 
-/// Returns the note on an explanation of a run of one command, in the initial state of the model.
-fn note_if_explanation_finds_call_wrong(text: &str) -> &'static str {
-    if text.starts_with(POST_FAULT) {
-        FAULT_NOTE
-    } else if text.contains(ONE_WRONG) && !text.starts_with(FAULT) {
-        NOTE
-    } else {
-        ""
+/// Returns the note on a run of one command, in the initial state of the model. It is empty if the call is right.
+fn note_on_judged_call(judged: &Judged) -> &'static str {
+    match judged {
+        Judged::Verdict(Verdict::Faulted(place)) if place.callback == Callback::Post => FAULT_NOTE,
+        Judged::Verdict(Verdict::Unexplained(_)) => NOTE,
+        _ => "",
     }
 }
 
@@ -220,15 +223,8 @@ fn is_reply_right_after_call(
         return Ok(false);
     };
     let (case, history) = case_and_history_of_one_command(alloc, command, reply)?;
-    let explanation = compile_model_and_explain_failed_run(
-        alloc,
-        model.as_slice(),
-        CallOrder::Any,
-        case,
-        history,
-        usize::MAX,
-    )?;
-    Ok(explanation.is_none())
+    let judged = judge_recorded_run(alloc, &model, case, history)?;
+    Ok(matches!(judged, Some(Judged::Verdict(Verdict::Explained(_)))))
 }
 
 /// Returns the note on the first call of a run, in the initial state of the model. It is empty if the call is
@@ -236,6 +232,7 @@ fn is_reply_right_after_call(
 fn note_if_first_call_is_wrong(
     alloc: Global,
     input: &[u8],
+    typed: &Typed,
     case: &Case,
     history: &History,
 ) -> Result<&'static str, AllocError> {
@@ -243,19 +240,8 @@ fn note_if_first_call_is_wrong(
         return Ok("");
     };
     let (case, history) = case_and_history_of_one_command(alloc, command, reply)?;
-    let explanation = compile_model_and_explain_failed_run(
-        alloc,
-        input,
-        CallOrder::Any,
-        case,
-        history,
-        usize::MAX,
-    )?;
-    let note = match &explanation {
-        Some(text) => match std::str::from_utf8(text.as_slice()) {
-            Ok(text) => note_if_explanation_finds_call_wrong(text),
-            Err(_) => "",
-        },
+    let note = match judge_recorded_run(alloc, typed, case, history)? {
+        Some(judged) => note_on_judged_call(&judged),
         None => "",
     };
     if note == NOTE && is_reply_right_after_call(alloc, input, command, reply)? {
@@ -295,7 +281,8 @@ fn print_smallest_failure<R: Eprint>(
     } else {
         ""
     };
-    let note = note_if_first_call_is_wrong(alloc, input, case, history);
+    let typed = end.plan().typed();
+    let note = note_if_first_call_is_wrong(alloc, input, typed, case, history);
     if let Ok(text) = explain_failure(alloc, end, failure, line_width)
         && let Ok(text) = std::str::from_utf8(text.as_slice())
     {

@@ -89,7 +89,8 @@ Examples:
   pst campaign --client ./client.py cache.model --save failures
 
 The report is on standard output; `pst help verdicts` explains its lines. Standard error then explains the failure with
-the fewest calls, and the first trial without a case; -q leaves this out.
+the fewest calls (of several one with the fewest of unknown outcome), and the first trial without a case; it counts the trials
+with calls of unknown outcome. -q leaves this out.
 
 --seed random draws a seed, which the second line of the report has.
 

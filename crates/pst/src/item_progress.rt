@@ -2,7 +2,7 @@
 
 use crate::stop_signals::{SideTask, SideThread};
 use crate::summary::add_number_with_thousands_commas;
-use pst_cli::{Attendant, ProgressCounter};
+use pst_cli::{Attendant, InputRefusal, ProgressCounter};
 use std::alloc::{AllocError, Global};
 use std::sync::{Arc, Wait};
 use std::thread::Threads;
@@ -140,6 +140,8 @@ pub struct ProgressDisplay<'a, R> {
     displayed: Option<Arc<ProgressCounter, Global>>,
     /// The steps that are not displayed.
     steps: ProgressCounter,
+    /// What the whole input is refused for, if it is.
+    refusal: Option<InputRefusal>,
 }
 
 impl<'a, R: Threads + Wait + Eprint + Copy + Drop + Send + 'static> ProgressDisplay<'a, R> {
@@ -150,6 +152,7 @@ impl<'a, R: Threads + Wait + Eprint + Copy + Drop + Send + 'static> ProgressDisp
             thread,
             displayed: None,
             steps: ProgressCounter::new(),
+            refusal: None,
         }
     }
 
@@ -176,6 +179,11 @@ impl<'a, R: Threads + Wait + Eprint + Copy + Drop + Send + 'static> ProgressDisp
         }
         display
     }
+
+    /// What the whole input is refused for, if it is. It is known once the answer is.
+    pub fn refusal(&self) -> Option<InputRefusal> {
+        self.refusal
+    }
 }
 
 impl<R: Threads + Wait> Attendant for ProgressDisplay<'_, R> {
@@ -186,7 +194,8 @@ impl<R: Threads + Wait> Attendant for ProgressDisplay<'_, R> {
         }
     }
 
-    fn before_output(&mut self) {
+    fn before_output(&mut self, refusal: Option<InputRefusal>) {
+        self.refusal = refusal;
         if let Some(thread) = self.thread.take() {
             thread.end_and_wait(self.rt);
         }

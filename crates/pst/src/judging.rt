@@ -4,7 +4,9 @@ ghost use Rattle.pst_cli.specs.Answering.{Delivers, Reaches, Stands, memory_of};
 ghost use Rattle.pst_cli.specs.Commands.{IsJudgeAnswer, IsJudgedInput, IsMeant, IsMeantOf};
 ghost use Rattle.pst_runs.specs.Lawful.{AreLawful};
 
+use crate::diagnostics::print_messages_if_any;
 use crate::item_progress::ProgressDisplay;
+use crate::preparing::SubcommandContext;
 use crate::subcommands::{order_for_recorded_runs_from_arguments, output_form_from_arguments};
 use clap::ArgMatches;
 use pst_cli::{
@@ -13,25 +15,16 @@ use pst_cli::{
 };
 use pst_input::InputText;
 use pst_messages::{
-    ItemInput, first_broken_item_result_and_count_message, first_broken_run_and_count_message,
-    precondition_warnings_on_item_results, precondition_warnings_on_runs,
+    ItemInput, RefusedItems, first_broken_item_result_and_count_message,
+    first_broken_run_and_count_message, precondition_warnings_on_item_results,
+    precondition_warnings_on_runs, refused_items_messages_text,
 };
+use pst_rejudge::ItemResult;
 use pst_sexpr::Sink;
 use std::alloc::{AllocError, Global};
 use std::mem::forget;
 use std::sync::Wait;
 use std::thread::Threads;
-
-/// Writes `messages` to standard error. It does nothing if an allocation for them failed, and ignores failures to
-/// write.
-fn print_messages_if_any_to_stderr<R: Eprint>(
-    rt: &R,
-    messages: Result<Option<String>, AllocError>,
-) {
-    if let Ok(Some(messages)) = messages {
-        let _ = eprint!(rt; "{messages}");
-    }
-}
 
 /// Writes why the first broken item of the judged ones is broken, and the warnings on the judged items.
 ///
@@ -51,7 +44,7 @@ fn print_messages_on_judged_runs<R: Eprint>(
         judged,
     } = file;
     let typed = compiled.typed();
-    print_messages_if_any_to_stderr(
+    print_messages_if_any(
         rt,
         first_broken_run_and_count_message(alloc, typed, input, judged.as_slice()),
     );
@@ -63,8 +56,19 @@ fn print_messages_on_judged_runs<R: Eprint>(
         runs.as_slice(),
         judged.as_slice(),
     );
-    print_messages_if_any_to_stderr(rt, warnings);
+    print_messages_if_any(rt, warnings);
     forget((compiled, runs, judged));
+}
+
+/// The messages on the refused items among the answered ones.
+fn refused_item_messages(
+    alloc: Global,
+    input: &InputText<'_>,
+    answers: &[ItemResult],
+    messages: JudgeMessages,
+) -> Result<Option<String>, AllocError> {
+    let refused = RefusedItems::of_item_results(alloc, answers, messages.has_all_refusals)?;
+    refused_items_messages_text(alloc, input, &refused)
 }
 
 /// Writes why the first broken item of the answered ones is broken, and the warnings on the answered items.
@@ -72,14 +76,14 @@ fn print_messages_on_item_results<R: Eprint>(
     rt: &R,
     alloc: Global,
     input: ItemInput<'_>,
-    answered: FileWithItemResults,
+    answered: &FileWithItemResults,
 ) {
-    let FileWithItemResults { file, answers } = answered;
+    let file = &answered.file;
     let typed = file.compiled.typed();
-    let (trees, answers) = (file.trees.as_slice(), answers.as_slice());
-    print_messages_if_any_to_stderr(
+    let (trees, answers) = (file.trees.as_slice(), answered.answers.as_slice());
+    print_messages_if_any(
         rt,
-        first_broken_item_result_and_count_message(alloc, typed, input, trees, answers),
+        first_broken_item_result_and_count_message(alloc, typed, input, answers),
     );
     let warnings = precondition_warnings_on_item_results(
         &file.compiled,
@@ -89,31 +93,61 @@ fn print_messages_on_item_results<R: Eprint>(
         trees,
         answers,
     );
-    print_messages_if_any_to_stderr(rt, warnings)
+    print_messages_if_any(rt, warnings)
 }
 
-/// Counts what was judged, and writes why the first broken item is broken and the warnings on the items.
+/// Counts what was judged, and writes why the first broken item is broken, the warnings on the items, and the messages on
+/// refused items if `status` says that there are some.
 fn count_and_print_messages<R: Eprint>(
     rt: &R,
     alloc: Global,
     input: &InputText<'_>,
     counts: &mut ItemResultCounts,
     judging: Judging,
+    messages: JudgeMessages,
+    status: Status,
 )
     requires { IsMeantOf IsJudgedInput input.now judging }
 {
-    let input = ItemInput {
+    let items = ItemInput {
         trees: input.plain_input(),
         read: input.files(),
     };
     match judging {
         Judging::UpToRefusal(file) => {
             counts.add_judged_items(file.judged.as_slice());
-            print_messages_on_judged_runs(rt, alloc, input, file);
+            print_messages_on_judged_runs(rt, alloc, items, file);
         }
         Judging::Each(answered) => {
-            counts.add_item_results(answered.answers.as_slice());
-            print_messages_on_item_results(rt, alloc, input, answered);
+            let answers = answered.answers.as_slice();
+            counts.add_item_results(answers);
+            print_messages_on_item_results(rt, alloc, items, &answered);
+            if status == Status::Refused {
+                print_messages_if_any(rt, refused_item_messages(alloc, input, answers, messages));
+            }
+        }
+    }
+}
+
+/// Which messages `pst judge` writes to standard error.
+#[derive(Clone, Copy, Drop)]
+pub struct JudgeMessages {
+    /// Whether it writes none, and counts no items.
+    is_quiet: bool,
+    /// Whether a line displays the progress.
+    has_progress_line: bool,
+    /// Whether each refused item has a message; else the first twenty have one.
+    has_all_refusals: bool,
+}
+
+impl JudgeMessages {
+    /// The messages that the arguments choose.
+    pub fn of_command(context: SubcommandContext<'_, '_>) -> JudgeMessages {
+        let is_quiet = context.arguments.get_flag("quiet");
+        JudgeMessages {
+            is_quiet,
+            has_progress_line: context.terminals.errors && !is_quiet,
+            has_all_refusals: context.arguments.get_flag("all-messages"),
         }
     }
 }
@@ -133,8 +167,8 @@ pub fn judge_options_from_arguments(arguments: &ArgMatches<'_>) -> JudgeOptions 
     }
 }
 
-/// Judges the items of the input. If `has_progress_line`, a line on standard error displays the progress. Unless `is_quiet`,
-/// it then counts the items, and may write messages to standard error.
+/// Judges the items of the input, with messages on standard error, and counts the items unless the messages are quiet. `counts`
+/// keeps what the input is refused for, if it is.
 pub fn judge_with_messages<
     F: Sink,
     W: Sink,
@@ -142,8 +176,7 @@ pub fn judge_with_messages<
 >(
     rt: &R,
     options: JudgeOptions,
-    is_quiet: bool,
-    has_progress_line: bool,
+    messages: JudgeMessages,
     input: &InputText<'_>,
     counts: &mut ItemResultCounts,
     to: &mut Destinations<F, W>,
@@ -153,13 +186,17 @@ pub fn judge_with_messages<
         (Delivers F.taken F.broken W.taken W.broken to.old to.new result) }
 {
     let alloc = rt.alloc();
-    let mut display = ProgressDisplay::of_items(rt, alloc, has_progress_line, "judged");
-    if has_progress_line && let Ok(count) = count_items_of_input(alloc, input.plain()) {
+    let has_line = messages.has_progress_line;
+    let mut display = ProgressDisplay::of_items(rt, alloc, has_line, "judged");
+    if has_line && let Ok(count) = count_items_of_input(alloc, input.plain()) {
         display.steps().restart_with_total(count);
     }
     let (status, judging) = judge_items(rt, alloc, input, options, &mut display, to);
-    if !is_quiet && let Some(judging) = judging {
-        count_and_print_messages(rt, alloc, input, counts, judging);
+    counts.refusal = display.refusal();
+    if !messages.is_quiet
+        && let Some(judging) = judging
+    {
+        count_and_print_messages(rt, alloc, input, counts, judging, messages, status);
     }
     status
 }

@@ -107,6 +107,7 @@ fn main(rt: HostRuntime) -> ExitCode {
                 started.as_slice(),
             )?;
             let prepared = preparing::prepare_input_or_run_fmt(&rt, &matches, terminals)?;
+            let options = subcommands::client_options_from_arguments(&matches);
             let mut systems: SystemsResult = Ok(Vec::new(alloc));
             if let Some((wanted, count)) = systems::systems_and_count_from_arguments(&matches) {
                 for worker in 0..count {
@@ -119,7 +120,7 @@ fn main(rt: HostRuntime) -> ExitCode {
                         ),
                         ChosenSystems::Clients(folder) =>
                             match clients::open_boxed_clients_for_worker(
-                                rt, &rt, folder, worker, &prepared,
+                                rt, &rt, folder, worker, options, &prepared,
                             ) {
                                 Ok(clients) => Ok(clients),
                                 Err(why) => Err(why),

@@ -1,6 +1,6 @@
 //! What a command works on: its input, read or refused, places for what clients and systems do wrong, its context.
 
-use crate::clients::{SharedClientNotes, new_client_notes};
+use crate::clients::{SharedClientNotes, new_client_notes, result_types_for_clients};
 use crate::driving::{SharedMisfits, new_misfit_list_for_run_unless_quiet};
 use crate::input::{InputOptions, STANDARD_INPUT};
 use crate::stop_signals::StopFlag;
@@ -12,10 +12,12 @@ use crate::{
 };
 use clap::ArgMatches;
 use pst_cli::{Status, refuse_text};
+use pst_clients::Notes;
 use pst_driver::Misfits;
 use pst_input::InputText;
 use pst_sexpr::Out;
 use pst_sources::SourceFile;
+use pst_value::{Items, Ty};
 use std::alloc::{AllocError, Global};
 use std::io;
 use std::rt::Runtime;
@@ -25,6 +27,8 @@ use std::rt::Runtime;
 pub struct PreparedInput<'a> {
     /// The input.
     pub input: InputText<'a>,
+    /// The result types of the operations of the model, if clients are called for them.
+    pub result_types: Items<Ty>,
     /// The notes of all clients.
     pub notes: SharedClientNotes,
     /// The list of answers of a wrong type, if it is kept.
@@ -44,10 +48,12 @@ impl<'a> PreparedInput<'a> {
             Ok(input) => input,
             Err(AllocError) => return Err(AllocError),
         };
+        let result_types = result_types_for_clients(alloc, matches, input.plain())?;
         let notes = new_client_notes(alloc)?;
         let misfits = new_misfit_list_for_run_unless_quiet(alloc, matches);
         Ok(PreparedInput {
             input,
+            result_types,
             notes,
             misfits,
             burst: clients::burst_from_arguments(matches),
@@ -148,10 +154,10 @@ pub struct SubcommandContext<'a, 'm> {
     pub matches: &'a ArgMatches<'m>,
     /// The arguments of the subcommand.
     pub arguments: &'a ArgMatches<'m>,
-    /// The files of the input as they were read, with their JSON items.
-    pub files: &'a [SourceFile<'a>],
     /// The list of answers of a wrong type, if it is kept. The threads that drive cases share it.
     pub misfits: Option<&'a Misfits>,
+    /// The notes of all clients.
+    pub notes: &'a Notes,
     /// The signal that ends a campaign. The threads that drive cases share it.
     pub signal: StopFlag<'a>,
     /// Which of the standard files are terminals.

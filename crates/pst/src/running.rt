@@ -5,9 +5,10 @@ ghost use Rattle.pst.specs.Endings.{Ends, EndsRun, EndsSubcommand, IsAbsence};
 ghost use Rattle.pst_cli.specs.Answering.{Delivers, Reaches, Stands, memory_of};
 ghost use Rattle.pst_cli.specs.Commands.{IsJudgeAnswer, IsMeant};
 
-use crate::answering::answer_input_command;
+use crate::answering::answer_with_progress;
 use crate::campaigning::{begin_campaign_if_systems_are_made, run_campaign_on_systems};
 use crate::commands::{Command, RunCommand, command_from_arguments};
+use crate::judging::JudgeMessages;
 use crate::outputs::{WriteErrorKeeper, print_output_error_unless_pipe_closed};
 use crate::preparing::{PreparedInput, SubcommandContext, output_file_name_from_arguments};
 use crate::result_file::{
@@ -105,9 +106,8 @@ fn judge_items_of_files<
     ensures { Reaches (memory_of options.form) (IsMeant (IsJudgeAnswer options) input.now)
         (Delivers F.taken F.broken W.taken W.broken to.old to.new result) }
 {
-    let is_quiet = context.arguments.get_flag("quiet");
-    let has_progress_line = context.terminals.errors && !is_quiet;
-    judging::judge_with_messages(rt, options, is_quiet, has_progress_line, input, counts, to)
+    let messages = JudgeMessages::of_command(context);
+    judging::judge_with_messages(rt, options, messages, input, counts, to)
 }
 
 /// Runs a command, writes its output, and counts the results of its items. `stream` has the items of `judge --stream`.
@@ -134,7 +134,7 @@ fn run_command<
         (I.remaining stream) command.entry result }
 {
     match command {
-        Command::OfInput(command) => answer_input_command(rt, command, input, to),
+        Command::OfInput(command) => answer_with_progress(rt, command, input, counts, to),
         Command::Judge(options) => judge_items_of_files(rt, context, options, input, counts, to),
         Command::Stream(order) => streaming::judge_stream_with_messages(
             rt,
@@ -195,7 +195,7 @@ fn run_subcommand<
 fn print_outcome_messages_unless_quiet<R: Eprint + AllocGlobal>(
     rt: &R,
     context: SubcommandContext<'_, '_>,
-    input: Input<'_>,
+    input: &InputText<'_>,
     status: Status,
     counts: &ItemResultCounts,
 ) {
@@ -207,23 +207,16 @@ fn print_outcome_messages_unless_quiet<R: Eprint + AllocGlobal>(
     {
         return;
     }
+    let Input { files, bytes } = input.plain_input();
     match status {
         Status::Refused => diagnostics::print_refusal_messages_to_stderr(
-            rt,
-            subcommand,
-            arguments,
-            context.files,
+            rt, subcommand, arguments, input, counts,
         ),
         Status::Accepted if subcommand == "check" => {
-            diagnostics::print_check_warnings_to_stderr(rt, arguments, &input)
+            diagnostics::print_check_warnings_to_stderr(rt, arguments, &Input { files, bytes })
         }
         _ => summary::print_note_if_input_has_no_items(
-            rt,
-            subcommand,
-            arguments,
-            input.bytes,
-            status,
-            counts,
+            rt, subcommand, arguments, bytes, status, counts,
         ),
     }
     summary::print_summary_if_several_items(rt, counts);
@@ -275,7 +268,7 @@ fn run_subcommand_to_chosen_output<
     let mut counts = ItemResultCounts::new();
     let stream = rt.reader();
     let status = run_subcommand(rt, context, input, stream, systems, &mut counts, &mut to);
-    print_outcome_messages_unless_quiet(rt, context, input.plain_input(), status, &counts);
+    print_outcome_messages_unless_quiet(rt, context, input, status, &counts);
     let status = refuse_if_required_items_are_missing(rt, context, input, status, &counts);
     let Destinations { file, out } = to;
     let (_, failure) = writer_and_error_if_failed(out);
@@ -311,8 +304,8 @@ fn run_subcommand_while_watching_clients<
         subcommand,
         matches,
         arguments,
-        files: prepared.input.files(),
         misfits: prepared.misfits.as_deref(),
+        notes: &prepared.notes,
         signal: StopFlag {
             is_set: stop.as_deref(),
         },

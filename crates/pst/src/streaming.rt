@@ -156,7 +156,7 @@ fn judge_stream_with_progress<
         receiver,
         to,
     );
-    display.before_output();
+    display.before_output(None);
     (status, source.reader.failure)
 }
 

@@ -1,10 +1,12 @@
 //! The commands of the program. `subcommands/options.rt` has their arguments, `subcommands/plan.rt` the numbers of a campaign.
 
+mod client_options;
 mod options;
 mod plan;
 
 use crate::{explaining, formatting, help, page};
 use clap::Command;
+pub use client_options::client_options_from_arguments;
 pub use options::{
     is_client_option_given, is_json_selected, line_width_option, model_and_items_files_argument,
     only_failures_option, order_for_recorded_runs_from_arguments, order_for_systems_from_arguments,

@@ -1,8 +1,10 @@
 -- What is told of the trials of a campaign beside its report.
-use Rattle.std.specs.Prelude.{◌≡◌, ◌⊎◌, ⊤, ℕ, ◌+◌, ◌-◌, ◌^◌, ◌<◌, ◌≤◌, ◌==◌, if◌then◌else◌, Bool, false, List, [], ◌∷◌, ◌++◌, Option, Some, None, length, map, min, take, slice_get}
+use Rattle.std.specs.Prelude.{◌≡◌, ◌⊎◌, ⊤, ℕ, ◌+◌, ◌-◌, ◌^◌, ◌<◌, ◌≤◌, ◌==◌, if◌then◌else◌, nat_lt, Bool, true, false, List, [], ◌∷◌, ◌++◌, Option, Some, None, length, map, min, take, slice_get}
 use Rattle.std.specs.List.{All, Any, AllPairs, count_by, sum}
 use Rattle.std.specs.Option.{is_some}
+use Rattle.pst_case.specs.Unknown.{is_unknown}
 use Rattle.pst_case.specs.declared.case.Case.{Case}
+use Rattle.pst_case.specs.declared.history.History.{History}
 use Rattle.pst_cli.specs.CampaignView.{CampaignView}
 use Rattle.pst_cli.specs.declared.failing_run.TrialFailure.{TrialFailure}
 use Rattle.pst_cli.specs.declared.losses.LostTrials.{LostTrials}
@@ -42,19 +44,30 @@ number_in (Some (number, a)) = Some number
 abbrev pub command_count : Case → ℕ
 command_count c = min (length c.prefix + length c.suffix + sum (map length c.branches)) (2 ^ 64 - 1)
 
--- how many commands the shrunk case of a failed trial has
-abbrev pub calls_of : TrialFailure → ℕ
-calls_of f = command_count f.shrunk.now.last.case
+-- how many calls of a history have an unknown outcome; counting ends at 2^64 - 1
+abbrev pub unknown_count : History → ℕ
+unknown_count h =
+    min (count_by is_unknown h.prefix + count_by is_unknown h.suffix + sum (map (count_by is_unknown) h.branches)) (2 ^ 64 - 1)
+
+-- fewer commands, or as many and fewer calls of unknown outcome
+abbrev pub is_less_than : (commands unknowns commands' unknowns' : ℕ) → Bool
+is_less_than commands unknowns commands' unknowns' =
+    if commands == commands' then nat_lt unknowns unknowns' else nat_lt commands commands'
+
+abbrev pub is_less : FailingCase JudgedRun → FailingCase JudgedRun → Bool
+is_less a b =
+    is_less_than (command_count a.case) (unknown_count a.history.history) (command_count b.case) (unknown_count b.history.history)
 
 -- the failure is that of the trial of its number
 abbrev pub IsFailureOfTrial : List (Entry RecordView) → TrialFailure → Type 0
 IsFailureOfTrial entries f = IsShrunkAt entries f.trial f.shrunk.now
 
--- of the failed trials below the limit the first with the fewest commands
+-- of the failed trials below the limit those with the fewest commands, of these those with the fewest calls of unknown
+-- outcome, and of these the first
 pub record IsSmallest (limit : ℕ) (entries : List (Entry RecordView)) (f : TrialFailure) : Type 0 where
   pub trial : IsFailureOfTrial entries f
-  pub fewest : (k : ℕ) (s : Shrunk JudgedRun) → k < limit → IsShrunkAt entries k s → calls_of f ≤ command_count s.last.case
-  pub first : (k : ℕ) (s : Shrunk JudgedRun) → k < f.trial → IsShrunkAt entries k s → calls_of f < command_count s.last.case
+  pub fewest : (k : ℕ) (s : Shrunk JudgedRun) → k < limit → IsShrunkAt entries k s → is_less s.last f.shrunk.now.last ≡ false
+  pub first : (k : ℕ) (s : Shrunk JudgedRun) → k < f.trial → IsShrunkAt entries k s → is_less f.shrunk.now.last s.last ≡ true
 
 -- this, or no trial below the limit failed
 abbrev pub IsSmallestIfAny : ℕ → List (Entry RecordView) → Option TrialFailure → Type 0

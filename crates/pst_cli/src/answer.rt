@@ -8,6 +8,7 @@ ghost use Rattle.pst_cli.specs.Head.{refusal_line};
 ghost use Rattle.pst_cli.specs.declared.answer.Status.TheVariants.{Refused};
 
 use crate::objects::MEMORY_OBJECT;
+use pst_runs::RunFault;
 use pst_sexpr::{Sink, put_all};
 use pst_typing::Refusal;
 use std::alloc::{AllocError, Global};
@@ -52,6 +53,15 @@ impl Output {
     }
 }
 
+/// What a whole input is refused for.
+#[derive(Clone, Copy, Debug, PartialEq, Eq, Drop)]
+pub enum InputRefusal {
+    /// It does not begin with a well-typed model.
+    Model(Refusal),
+    /// An item after the model is refused.
+    Item(RunFault),
+}
+
 /// All that a command writes, and the status of the program.
 #[derive(Debug, Drop)]
 pub struct Answer {
@@ -61,17 +71,20 @@ pub struct Answer {
     pub status: Status,
     /// Whether the text refuses the whole input. It then never goes to a file for results.
     pub refuses: bool,
+    /// What the text refuses the whole input for, if it does.
+    pub refusal: Option<InputRefusal>,
 }
 
 impl Answer {
-    /// The refusal of the whole input by this line. Allocates nothing.
-    pub(crate) fn refusal(line: String) -> Answer
+    /// The refusal of the whole input by this line, for `refusal` if it is known. Allocates nothing.
+    pub(crate) fn refusal(line: String, refusal: Option<InputRefusal>) -> Answer
         ensures { IsRefusalBy (string_bytes line) Refused result }
     {
         Answer {
             text: line.into_bytes(),
             status: Status::Refused,
             refuses: true,
+            refusal,
         }
     }
 }
@@ -119,6 +132,14 @@ fn is_refusal(answer: &Result<Answer, AllocError>) -> bool
     match answer {
         Ok(answer) => answer.refuses,
         Err(AllocError) => true,
+    }
+}
+
+/// What an answer refuses the whole input for, if it does.
+pub(crate) fn refusal_of(answer: &Result<Answer, AllocError>) -> Option<InputRefusal> {
+    match answer {
+        Ok(answer) => answer.refusal,
+        Err(AllocError) => None,
     }
 }
 
@@ -205,5 +226,6 @@ impl Status {
 pub(crate) fn refusal_answer(alloc: Global, refusal: &Refusal) -> Result<Answer, AllocError>
     ensures { IfOk result (IsRefusalBy (refusal_line refusal.now) Refused) }
 {
-    Ok(Answer::refusal(format!(in alloc; "refused {refusal}\n")?))
+    let line = format!(in alloc; "refused {refusal}\n")?;
+    Ok(Answer::refusal(line, Some(InputRefusal::Model(*refusal))))
 }

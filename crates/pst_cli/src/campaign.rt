@@ -75,6 +75,7 @@ fn refused_campaign_answer(
         text: refused_campaign_line(alloc, fault)?.into_bytes(),
         status: Status::Lost,
         refuses: true,
+        refusal: None,
     })
 }
 
@@ -144,6 +145,7 @@ fn report_answer(
         text,
         status: exit_status_after_campaign(status_of_trials(undrawn, end.closed())),
         refuses: false,
+        refusal: None,
     })
 }
 
@@ -315,6 +317,6 @@ pub fn report_campaign<
     let form = options.form;
     let ended = run_trials_of_input(rt, alloc, input, settings, systems, watch, form);
     let (answer, end) = answer_and_end(alloc, options, ended);
-    attendant.before_output();
+    attendant.before_output(None);
     (deliver(&answer, memory_text(form), to), end)
 }

@@ -8,13 +8,17 @@ ghost use Rattle.pst_cli.specs.CampaignFailures.{AreLosses, IsFailingRun, IsSmal
 ghost use Rattle.pst_cli.specs.CampaignView.{IsComplete};
 ghost use Rattle.pst_report.specs.Distinct.{AreDistinctFailures};
 ghost use Rattle.pst_report.specs.Least.{failure_in, least_fault, of_record};
+ghost use Rattle.pst_report.specs.UnknownOutcomes.{ended_count, uncertain_count};
 
 use crate::campaign_calls::has_call_in_entries;
 use crate::failing_run::{TrialFailure, count_failed_trials};
 use crate::losses::{LostTrials, lost_trials_by_cause};
 use crate::smallest::smallest_failure_of;
 use pst_ledger::{Closed, Entry};
-use pst_report::{NumberedFailure, distinct_failures, first_trial_with_generation_fault};
+use pst_report::{
+    NumberedFailure, count_ended_trials, count_trials_with_unknown_outcomes, distinct_failures,
+    first_trial_with_generation_fault,
+};
 use pst_trial::{Plan, Record};
 use std::alloc::{AllocError, Global};
 use std::marker::Model;
@@ -89,6 +93,20 @@ impl CampaignEnd {
         count_failed_trials(self.entries())
     }
 
+    /// How many trials had calls of unknown outcome in their recorded runs.
+    pub fn count_trials_with_unknown_outcomes(&self) -> usize
+        ensures { result ≡ uncertain_count self.now.entries }
+    {
+        count_trials_with_unknown_outcomes(self.entries())
+    }
+
+    /// How many trials were run to their end: neither lost nor undrawn.
+    pub fn count_ended_trials(&self) -> usize
+        ensures { result ≡ ended_count self.now.entries }
+    {
+        count_ended_trials(self.entries())
+    }
+
     /// Whether a call was made in a run of its trials. If not, the campaign has tested nothing.
     pub fn has_call(&self) -> bool
         ensures { result ≡ list_any has_call_in_entry self.now.entries }
@@ -96,7 +114,8 @@ impl CampaignEnd {
         has_call_in_entries(self.entries())
     }
 
-    /// The failure whose shrunk case has the fewest commands; of several the one with the lowest number.
+    /// The failure whose shrunk case has the fewest commands; of several the one with the fewest calls of unknown outcome, and
+    /// of several such the one with the lowest number.
     pub fn smallest_failure(&self) -> Option<TrialFailure<'_>>
         ensures smallest { IsSmallestIfAny (length self.now.entries) self.now.entries result }
         ensures failing { IfSome result (λ f. IsFailingRun self.now.plan f.shrunk.now.last) }

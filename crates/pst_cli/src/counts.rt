@@ -1,5 +1,6 @@
 //! How many items had each result.
 
+use crate::answer::InputRefusal;
 use crate::driven_item::{DrivenItem, ItemReport};
 use pst_case::Run;
 use pst_judge::{Judged, Verdict, Why};
@@ -28,6 +29,8 @@ pub struct ItemResultCounts {
     pub lost: usize,
     /// The first driven run with a reply that is no value, and the number of its item, from 1.
     pub first_broken: Option<(usize, Run)>,
+    /// What the whole input is refused for, if it is.
+    pub refusal: Option<InputRefusal>,
 }
 
 /// Adds one.
@@ -49,6 +52,7 @@ impl ItemResultCounts {
             refused: 0,
             lost: 0,
             first_broken: None,
+            refusal: None,
         }
     }
 

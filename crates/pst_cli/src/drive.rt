@@ -11,7 +11,8 @@ ghost use Rattle.pst_runs.specs.Lawful.{AreLawful};
 ghost use Rattle.pst_system.specs.Kept.{AreKept};
 
 use crate::answer::{
-    Answer, Destinations, MEMORY_LINE, Output, OutputForm, Status, deliver, memory_text, send,
+    Answer, Destinations, MEMORY_LINE, Output, OutputForm, Status, deliver, memory_text,
+    refusal_of, send,
 };
 use crate::attendant::Attendant;
 use crate::counts::ItemResultCounts;
@@ -98,6 +99,7 @@ fn drive_answer<R: Threads + Wait>(
         text,
         status,
         refuses: false,
+        refusal: None,
     })
 }
 
@@ -130,7 +132,7 @@ pub fn drive_items<F: Sink, W: Sink, R: Threads + Wait, A: Attendant>(
         (reset_fails system.new) (reset_fails system.old) }
 {
     let answer = drive_answer(rt, alloc, input, system, options, counts, attendant.steps());
-    attendant.before_output();
+    attendant.before_output(refusal_of(&answer));
     deliver(&answer, memory_text(options.form), to)
 }
 

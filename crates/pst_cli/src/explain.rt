@@ -11,7 +11,7 @@ ghost use Rattle.pst_runs.specs.Lawful.{AreLawful, IsLawful};
 ghost use Rattle.pst_cli.specs.ChosenItem.{IsItem, no_item_line};
 ghost use Rattle.pst_cli.specs.declared.answer.Status.TheVariants.{Refused};
 
-use crate::answer::{Answer, Destinations, MEMORY_LINE, Status, deliver, send};
+use crate::answer::{Answer, Destinations, MEMORY_LINE, Status, deliver, refusal_of, send};
 use crate::attendant::Attendant;
 use crate::form::ExplanationForm;
 use crate::input::{JudgedFile, Keep, concatenate_run_lists, read_and_judge_file};
@@ -151,6 +151,7 @@ fn explanations_answer(
         text: document_explaining_chosen_items(alloc, judge, asked, places, runs, all, steps)?,
         status: status_of_judgements(all),
         refuses: false,
+        refusal: None,
     })
 }
 
@@ -222,7 +223,7 @@ pub fn explain_items<F: Sink, W: Sink, R: Threads + Sync, A: Attendant>(
         (Delivers F.taken F.broken W.taken W.broken to.old to.new result) }
 {
     let answer = explain_answer(rt, alloc, input.plain(), options, attendant.steps());
-    attendant.before_output();
+    attendant.before_output(refusal_of(&answer));
     deliver(&answer, MEMORY_LINE, to)
 }
 
@@ -270,5 +271,5 @@ pub(crate) fn missing_item_answer(
 ) -> Result<Answer, AllocError>
     ensures { IfOk result (IsRefusalBy (no_item_line number count) Refused) }
 {
-    Ok(Answer::refusal(missing_item_line(alloc, number, count)?))
+    Ok(Answer::refusal(missing_item_line(alloc, number, count)?, None))
 }

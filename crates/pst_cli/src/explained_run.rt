@@ -117,6 +117,23 @@ pub fn compile_model_and_explain_failed_run(
     judge_history_and_explain_if_failed(alloc, &judge, case, history, width)
 }
 
+/// Judges a run of the model: a case with its history, over all interleavings. Returns `None` if it is no run of the model.
+pub fn judge_recorded_run(
+    alloc: Global,
+    typed: &Typed,
+    case: Case,
+    history: History,
+) -> Result<Option<Judged>, AllocError> {
+    let Some(run) = run_if_case_and_history_fit_model(alloc, typed, case, history)? else {
+        return Ok(None);
+    };
+    let judge = Judge {
+        callbacks: &Plain::new(typed),
+        order: CallOrder::Any,
+    };
+    Ok(Some(judge.judge_one(alloc, &run)?))
+}
+
 /// Explains a failing run of a case that a trial was shrunk to, in lines of at most `width` bytes.
 fn failing_run_text<'a>(
     alloc: Global,

@@ -10,7 +10,8 @@ ghost use Rattle.pst_cli.specs.Sending.{Prints, memory_line};
 ghost use Rattle.pst_judge.specs.declared.by_order.CallOrder.TheVariants.{Any};
 ghost use Rattle.pst_runs.specs.Lawful.{AreLawful};
 
-use crate::answer::{Answer, Destinations, MEMORY_LINE, Status, deliver, send};
+use crate::answer::{Answer, Destinations, MEMORY_LINE, Status, deliver, refusal_of, send};
+use crate::attendant::Attendant;
 use crate::explain::missing_item_answer;
 use crate::input::{JudgedFile, Keep, concatenate_run_lists, read_and_judge_file};
 use crate::judge::{is_explained_or_valid, status_of_judgements};
@@ -101,6 +102,7 @@ fn item_graph_answer(
             text,
             status: status_of_judgements(all),
             refuses: false,
+            refusal: None,
         }),
         None => missing_item_answer(alloc, number, all.len()),
     }
@@ -163,22 +165,21 @@ pub fn write_search_graph_of_item<W: Sink, R: Threads + Sync>(
 }
 
 /// Does what [`write_search_graph_of_item`] does, over the interleavings that count by `order`.
-pub fn draw_item<F: Sink, W: Sink, R: Threads + Sync>(
+pub fn draw_item<F: Sink, W: Sink, R: Threads + Sync, A: Attendant>(
     rt: &R,
     alloc: Global,
     input: &InputText<'_>,
     order: CallOrder,
     item: Option<usize>,
     is_whole: bool,
+    attendant: &mut A,
     to: &mut Destinations<F, W>,
 ) -> Status
     requires stands { Stands F.broken W.broken to.old }
     ensures prints { Reaches memory_line (IsMeant (λ plain. IsGraphOutput order plain item) input.now)
         (Delivers F.taken F.broken W.taken W.broken to.old to.new result) }
 {
-    deliver(
-        &graph_answer(rt, alloc, input.plain(), order, item, is_whole),
-        MEMORY_LINE,
-        to,
-    )
+    let answer = graph_answer(rt, alloc, input.plain(), order, item, is_whole);
+    attendant.before_output(refusal_of(&answer));
+    deliver(&answer, MEMORY_LINE, to)
 }

@@ -15,8 +15,8 @@ ghost use Rattle.pst_runs.specs.Items.{runs_of};
 ghost use Rattle.pst_runs.specs.Lawful.{AreLawful};
 
 use crate::answer::{
-    Answer, Destinations, MEMORY_LINE, OutputForm, Status, deliver, memory_text, refusal_answer,
-    send,
+    Answer, Destinations, InputRefusal, MEMORY_LINE, OutputForm, Status, deliver, memory_text,
+    refusal_answer, refusal_of, send,
 };
 use crate::attendant::Attendant;
 use crate::input::{JudgedFile, Keep, read_and_judge_file};
@@ -112,8 +112,9 @@ pub(crate) fn refused_item_answer(
 ) -> Result<Answer, AllocError>
     ensures { IfOk result (IsRefusalBy (fault_of form fault.now) Refused) }
 {
+    let refusal = Some(InputRefusal::Item(*fault));
     match form {
-        OutputForm::Text => Ok(Answer::refusal(refused_run_line(alloc, fault)?)),
+        OutputForm::Text => Ok(Answer::refusal(refused_run_line(alloc, fault)?, refusal)),
         OutputForm::Json => refused_item_object_answer(alloc, fault),
     }
 }
@@ -169,6 +170,7 @@ fn judge_up_to_refusal<R: Threads + Sync>(
         text: text.into_bytes(),
         status: status_of_judgements(file.judged.as_slice()),
         refuses: false,
+        refusal: None,
     };
     Ok((answer, Some(Judging::UpToRefusal(file))))
 }
@@ -224,6 +226,7 @@ fn judge_each<R: Threads + Sync>(
         text: shown_item_results(alloc, form, shown, answers)?,
         status: worst_status_of_item_results(answers),
         refuses: false,
+        refusal: None,
     };
     Ok((answer, Some(Judging::Each(answered))))
 }
@@ -289,7 +292,7 @@ pub fn judge_items<F: Sink, W: Sink, R: Threads + Sync, A: Attendant>(
 {
     let judged = judge_answer(rt, alloc, input.plain(), options, attendant.steps());
     let (answer, judging) = split_judging(judged);
-    attendant.before_output();
+    attendant.before_output(refusal_of(&answer));
     (deliver(&answer, memory_text(options.form), to), judging)
 }
 

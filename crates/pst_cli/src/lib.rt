@@ -32,7 +32,7 @@ mod smallest;
 mod stream;
 
 pub use absent::{Absence, refuse, refuse_text};
-pub use answer::{Answer, Destinations, OutputForm, Status};
+pub use answer::{Answer, Destinations, InputRefusal, OutputForm, Status};
 pub use attendant::{Attendant, Unattended};
 pub use campaign::{ReportOptions, UndrawnTrials, campaign_text, report_campaign};
 pub use campaign_end::CampaignEnd;
@@ -40,7 +40,9 @@ pub use campaign_junit::campaign_junit_xml;
 pub use counts::ItemResultCounts;
 pub use drive::{DriveOptions, drive_items, run_text};
 pub use explain::{ChosenItems, ExplainOptions, explain_items, explain_text};
-pub use explained_run::{compile_model_and_explain_failed_run, explain_failure};
+pub use explained_run::{
+    compile_model_and_explain_failed_run, explain_failure, judge_recorded_run,
+};
 pub use failing_run::TrialFailure;
 pub use failure_page::campaign_failures_html_page;
 pub use form::ExplanationForm;

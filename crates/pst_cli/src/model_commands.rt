@@ -11,8 +11,9 @@ ghost use Rattle.pst_runs.specs.Lawful.{AreLawful, IsLawful};
 
 use crate::answer::{
     Answer, Destinations, MEMORY_LINE, OutputForm, Status, deliver, memory_text, refusal_answer,
-    send,
+    refusal_of, send,
 };
+use crate::attendant::Attendant;
 use crate::input::{ModelAndRuns, compile_model_of_input, read_model_and_runs_of_input};
 use crate::item_output::tree_line_of_run;
 use crate::objects::check_object_answer;
@@ -42,6 +43,7 @@ fn check_line_answer(alloc: Global, input: &[u8]) -> Result<Answer, AllocError>
             text: accepted_model_line(alloc, &file.typed)?.into_bytes(),
             status: Status::Accepted,
             refuses: false,
+            refusal: None,
         }),
         Err(refusal) => refusal_answer(alloc, &refusal),
     }
@@ -74,22 +76,21 @@ pub fn check_text<W: Sink>(alloc: Global, input: &[u8], sink: &mut W) -> Status
 
 /// Does what [`check_text`] does. As JSON, writes the object of the model or of its refusal, and then the notices, which
 /// are lines of objects.
-pub fn check_model<F: Sink, W: Sink>(
+pub fn check_model<F: Sink, W: Sink, A: Attendant>(
     alloc: Global,
     input: &InputText<'_>,
     form: OutputForm,
     notices: &[u8],
+    attendant: &mut A,
     to: &mut Destinations<F, W>,
 ) -> Status
     requires stands { Stands F.broken W.broken to.old }
     ensures prints { Reaches (memory_of form) (IsMeant (check_answer form notices.now) input.now)
         (Delivers F.taken F.broken W.taken W.broken to.old to.new result) }
 {
-    deliver(
-        &check_answer(alloc, input.plain(), form, notices),
-        memory_text(form),
-        to,
-    )
+    let answer = check_answer(alloc, input.plain(), form, notices);
+    attendant.before_output(refusal_of(&answer));
+    deliver(&answer, memory_text(form), to)
 }
 
 /// The listing of the model, or the first refusal.
@@ -101,6 +102,7 @@ fn list_answer(alloc: Global, input: &[u8]) -> Result<Answer, AllocError>
             text: listing(alloc, &file.compiled)?.into_vec(),
             status: Status::Accepted,
             refuses: false,
+            refusal: None,
         }),
         Err(refusal) => refusal_answer(alloc, &refusal),
     }
@@ -117,16 +119,19 @@ pub fn list_text<W: Sink>(alloc: Global, input: &[u8], sink: &mut W) -> Status
 }
 
 /// Does what [`list_text`] does.
-pub fn list_model<F: Sink, W: Sink>(
+pub fn list_model<F: Sink, W: Sink, A: Attendant>(
     alloc: Global,
     input: &InputText<'_>,
+    attendant: &mut A,
     to: &mut Destinations<F, W>,
 ) -> Status
     requires stands { Stands F.broken W.broken to.old }
     ensures prints { Reaches memory_line (IsMeant IsListOutput input.now)
         (Delivers F.taken F.broken W.taken W.broken to.old to.new result) }
 {
-    deliver(&list_answer(alloc, input.plain()), MEMORY_LINE, to)
+    let answer = list_answer(alloc, input.plain());
+    attendant.before_output(refusal_of(&answer));
+    deliver(&answer, MEMORY_LINE, to)
 }
 
 /// How items are spelled.
@@ -186,20 +191,24 @@ fn convert_answer(alloc: Global, input: &[u8], form: ItemForm) -> Result<Answer,
         text,
         status: Status::Accepted,
         refuses: false,
+        refusal: None,
     })
 }
 
 /// Writes the items of the input in a form, one on each line, or the first refusal alone, and returns the status. If an
 /// allocation fails, writes `refused memory` alone.
-pub fn convert_items<F: Sink, W: Sink>(
+pub fn convert_items<F: Sink, W: Sink, A: Attendant>(
     alloc: Global,
     input: &InputText<'_>,
     form: ItemForm,
+    attendant: &mut A,
     to: &mut Destinations<F, W>,
 ) -> Status
     requires stands { Stands F.broken W.broken to.old }
     ensures prints { Reaches memory_line (IsMeant (IsConvertOutput form) input.now)
         (Delivers F.taken F.broken W.taken W.broken to.old to.new result) }
 {
-    deliver(&convert_answer(alloc, input.plain(), form), MEMORY_LINE, to)
+    let answer = convert_answer(alloc, input.plain(), form);
+    attendant.before_output(refusal_of(&answer));
+    deliver(&answer, MEMORY_LINE, to)
 }

@@ -6,7 +6,7 @@ ghost use Rattle.pst_cli.specs.declared.answer.Status.TheVariants.{Refused};
 ghost use Rattle.pst_rejudge.specs.Objects.{object_line};
 ghost use Rattle.pst_rejudge.specs.Verdicts.{accepted_fields, refused_fields};
 
-use crate::answer::{Answer, Status};
+use crate::answer::{Answer, InputRefusal, Status};
 use crate::keep::is_result_explained_or_valid;
 use crate::lines::Shown;
 use pst_model::Typed;
@@ -67,14 +67,19 @@ pub(crate) fn shown_item_json_objects(
     Ok(text)
 }
 
-/// The refusal of the whole input by the object with these members.
-fn refusal_by_object(alloc: Global, fields: &[Field]) -> Result<Answer, AllocError>
+/// The refusal of the whole input for `refusal`, by the object with these members.
+fn refusal_by_object(
+    alloc: Global,
+    fields: &[Field],
+    refusal: InputRefusal,
+) -> Result<Answer, AllocError>
     ensures { IfOk result (IsRefusalBy (object_line fields.now) Refused) }
 {
     Ok(Answer {
         text: json_object_line(alloc, fields)?,
         status: Status::Refused,
         refuses: true,
+        refusal: Some(refusal),
     })
 }
 
@@ -83,7 +88,7 @@ pub(crate) fn refusal_object_answer(alloc: Global, refusal: &Refusal) -> Result<
     ensures { IfOk result (IsRefusalBy (refusal_object refusal.now) Refused) }
 {
     let fields = refused_model_fields(alloc, refusal)?;
-    refusal_by_object(alloc, fields.as_slice())
+    refusal_by_object(alloc, fields.as_slice(), InputRefusal::Model(*refusal))
 }
 
 /// The object of an item that refuses the input.
@@ -95,7 +100,7 @@ pub(crate) fn refused_item_object_answer(
         (object_line (refused_fields fault.now.run fault.now.kind fault.now.command)) Refused) }
 {
     let fields = refused_item_fields(alloc, fault.run, fault.kind, fault.command)?;
-    refusal_by_object(alloc, fields.as_slice())
+    refusal_by_object(alloc, fields.as_slice(), InputRefusal::Item(*fault))
 }
 
 /// The line that a command writes alone, as JSON, if an allocation fails.
@@ -118,6 +123,7 @@ fn model_object_answer(alloc: Global, input: &[u8]) -> Result<Answer, AllocError
             text: accepted_model_json_object(alloc, &file.typed)?,
             status: Status::Accepted,
             refuses: false,
+            refusal: None,
         }),
         Err(refusal) => refusal_object_answer(alloc, &refusal),
     }

@@ -1,4 +1,6 @@
+mod Differing
+mod Mapped
 mod OneLine
+mod Said
 pub mod Sent
 mod Zipping
-mod Said

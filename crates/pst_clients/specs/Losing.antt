@@ -1,8 +1,9 @@
 -- Why a call or a reset of a client is lost. `may_give` has the lines that a source of its kind may give, `may_fail` says
 -- that such a source may fail, `may_run_ahead` that it may have more than the line that is wanted of it, and `may_break`
 -- that the way to a client of its kind may be closed.
-use Rattle.std.specs.Prelude.{◌≡◌, ℕ, ◌≤◌, Bool, true, false, List, Option, IsUtf8}
+use Rattle.std.specs.Prelude.{◌≡◌, ◌≢◌, ℕ, ◌≤◌, Bool, true, false, List, Option, IsUtf8, ⊤}
 use Rattle.pst_clients.specs.Answering.{Spells, says_failed, says_unknown}
+use Rattle.pst_clients.specs.Ends.{SaysUnknownEnd}
 use Rattle.pst_clients.specs.Lines.{has_mark}
 use Rattle.pst_clients.specs.declared.states.ClientState.{ClientState}
 use Rattle.pst_clients.specs.declared.states.ClientState.TheVariants as state
@@ -24,6 +25,7 @@ is_gone state.Closed = true
 abbrev pub fault_of : LostAnswer → CallFault
 fault_of lost.NoMemory = NoMemory
 fault_of (lost.Ended how) = Refused
+fault_of (lost.EndedUnknown how) = OutcomeUnknown
 fault_of lost.Closed = Refused
 fault_of lost.TooLong = Refused
 fault_of lost.NoText = Refused
@@ -33,7 +35,9 @@ fault_of lost.TooLate = Refused
 
 -- why a source gives no line
 abbrev pub IsReadLoss : Type 0 → CallFault → Type 0
-IsReadLoss may_fail f = f ≡ Refused → may_fail
+IsReadLoss may_fail NoMemory = ⊤
+IsReadLoss may_fail Refused = may_fail
+IsReadLoss may_fail OutcomeUnknown = ⊥
 
 -- why a client gives no answer any more
 pub data IsGone (may_give : List ℕ → Type 0) (may_fail may_break : Type 0) : Type 0 where
@@ -52,6 +56,15 @@ pub data IsLineLoss (may_give : List ℕ → Type 0) (may_fail may_run_ahead may
   gone : f ≡ Refused → ∥ IsGone may_give may_fail may_break ∥₁ → IsLineLoss may_give may_fail may_run_ahead may_break f
   no_text : f ≡ Refused → ((line : List ℕ) × may_give line × (¬ IsUtf8 line)) → IsLineLoss may_give may_fail may_run_ahead may_break f
   more_lines : f ≡ Refused → may_run_ahead → IsLineLoss may_give may_fail may_run_ahead may_break f
+  unknown_end : f ≡ OutcomeUnknown → ((line : List ℕ) × may_give line × SaysUnknownEnd line)
+      → IsLineLoss may_give may_fail may_run_ahead may_break f
+
+-- why a text that a client says gives no value to a call whose result is wanted to have the type
+pub data IsTextLoss (t : Option Ty) (text : List ℕ) (f : CallFault) : Type 0 where
+  memory : f ≡ NoMemory → IsTextLoss t text f
+  failed : f ≡ Refused → says_failed text ≡ true → IsTextLoss t text f
+  unknown : f ≡ OutcomeUnknown → says_unknown text ≡ true → IsTextLoss t text f
+  no_value : f ≡ Refused → ((v : Value) → ¬ Spells t text v) → IsTextLoss t text f
 
 -- why a call is lost, of a worker with so many clients, whose result is wanted to have the type; `is_said` has the texts that a
 -- client says
@@ -60,16 +73,15 @@ pub data IsCallLoss (may_give is_said : List ℕ → Type 0) (may_fail may_run_a
   memory : f ≡ NoMemory → IsCallLoss may_give is_said may_fail may_run_ahead may_break clients t f
   no_client : f ≡ Refused → clients ≤ 3 → IsCallLoss may_give is_said may_fail may_run_ahead may_break clients t f
   unanswered : IsLineLoss may_give may_fail may_run_ahead may_break f → IsCallLoss may_give is_said may_fail may_run_ahead may_break clients t f
-  failed : f ≡ Refused → ((text : List ℕ) × is_said text × (says_failed text ≡ true))
-      → IsCallLoss may_give is_said may_fail may_run_ahead may_break clients t f
-  unknown : f ≡ OutcomeUnknown → ((text : List ℕ) × is_said text × (says_unknown text ≡ true))
-      → IsCallLoss may_give is_said may_fail may_run_ahead may_break clients t f
-  no_value : f ≡ Refused → ((text : List ℕ) × is_said text × ((v : Value) → ¬ Spells t text v))
+  told : ((text : List ℕ) × is_said text × IsTextLoss t text f)
       → IsCallLoss may_give is_said may_fail may_run_ahead may_break clients t f
 
 -- why a reset is lost
 pub data IsResetLoss (may_give : List ℕ → Type 0) (may_fail may_run_ahead may_break : Type 0) (f : CallFault) : Type 0 where
-  unanswered : IsLineLoss may_give may_fail may_run_ahead may_break f → IsResetLoss may_give may_fail may_run_ahead may_break f
+  unanswered : f ≢ OutcomeUnknown → IsLineLoss may_give may_fail may_run_ahead may_break f
+      → IsResetLoss may_give may_fail may_run_ahead may_break f
+  unknown_end : f ≡ Refused → ((line : List ℕ) × may_give line × SaysUnknownEnd line)
+      → IsResetLoss may_give may_fail may_run_ahead may_break f
   failed : f ≡ Refused → ((line : List ℕ) × may_give line × (says_failed line ≡ true))
       → IsResetLoss may_give may_fail may_run_ahead may_break f
   unknown : f ≡ Refused → ((line : List ℕ) × may_give line × (says_unknown line ≡ true))

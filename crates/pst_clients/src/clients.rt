@@ -2,10 +2,11 @@
 ghost use Rattle.std.specs.Prelude.{◌≡◌, ◌≤◌, IfErr, IfOk, MatchResult, option_copied, length, slice_get, string_bytes};
 ghost use Rattle.pst_clients.specs.Answering.{Answered, Spells};
 ghost use Rattle.pst_clients.specs.Bursting.{IsSaid};
-ghost use Rattle.pst_clients.specs.Losing.{IsCallLoss, IsLineLoss, IsResetLoss, fault_of};
+ghost use Rattle.pst_clients.specs.Losing.{IsCallLoss, IsLineLoss, IsResetLoss, IsTextLoss, fault_of};
 
 use crate::connection::Connection;
 use crate::notes::{BadlyAnsweredLine, ClientId, NoteKind, Notes};
+use crate::options::ClientOptions;
 use crate::protocol::{
     ClientAnswer, client_answer_of_line, client_call_line, hint_on_answer_of_wrong_type,
     hint_on_answer_without_value,
@@ -16,6 +17,7 @@ use pst_system::{BurstCase, BurstDrive, CallFault, RealCall, System};
 use pst_value::{Items, Ty, Value};
 use std::alloc::{AllocError, Global};
 use std::rt::Files;
+use std::sync::atomic::AtomicBool;
 use std::sync::{Arc, Mutex, Wait};
 
 /// Why a line with the mark of a client's end is no answer.
@@ -45,6 +47,11 @@ pub struct Clients<R: Wait, I: LineSource, O: LineSink> {
     pub(crate) drives: u32,
     /// The number of the last burst.
     pub(crate) bursts: u64,
+    pub(crate) options: ClientOptions,
+    /// How many resets were begun.
+    pub(crate) resets: u64,
+    /// Whether a call since the last reset had an unknown outcome or ended its client.
+    pub(crate) has_call_that_may_be_late: AtomicBool,
 }
 
 /// The place of a branch's client. A worker has at most four branches.
@@ -76,6 +83,9 @@ impl<R: Wait + Files, I: LineSource + Drop, O: LineSink + Drop> Clients<R, I, O>
             notes,
             drives: 0,
             bursts: 0,
+            options: ClientOptions::NONE,
+            resets: 0,
+            has_call_that_may_be_late: AtomicBool::new(false),
         }
     }
 
@@ -84,6 +94,14 @@ impl<R: Wait + Files, I: LineSource + Drop, O: LineSink + Drop> Clients<R, I, O>
         ensures { result.results ≡ self.results }
     {
         self.drives = drives;
+        self
+    }
+
+    /// The same clients with these options.
+    pub fn with_options(mut self, options: ClientOptions) -> Clients<R, I, O>
+        ensures { result.results ≡ self.results }
+    {
+        self.options = options;
         self
     }
 
@@ -127,6 +145,7 @@ impl<R: Wait + Files, I: LineSource + Drop, O: LineSink + Drop> Clients<R, I, O>
         let (kind, why) = match lost {
             LostAnswer::Ended(how) if how.trim().is_empty() => (NoteKind::NotAnswered, END_MARK),
             LostAnswer::Ended(how) => (NoteKind::NotAnswered, how.as_str()),
+            LostAnswer::EndedUnknown(how) => (NoteKind::EndedUnknown, how.as_str()),
             LostAnswer::Marked => (NoteKind::NotAnswered, END_MARK),
             LostAnswer::TooLate => (
                 NoteKind::NotAnswered,
@@ -223,10 +242,7 @@ impl<R: Wait + Files, I: LineSource + Drop, O: LineSink + Drop> Clients<R, I, O>
         text: &str,
         ty: Option<&Ty>,
     ) -> Result<Value, CallFault>
-        requires { IsSaid I.may_give text.now }
-        ensures value { IfOk result (λ v. Spells (option_copied ty.entry) text.now v) }
-        ensures lost { IfErr result (λ f. IsCallLoss I.may_give (IsSaid I.may_give) I.may_fail I.may_run_ahead O.may_break
-            (length self.now.connections.items) (option_copied ty.entry) f) }
+        ensures { MatchResult result (Spells (option_copied ty.entry) text.now) (IsTextLoss (option_copied ty.entry) text.now) }
     {
         match client_answer_of_line(self.alloc, ty, text) {
             Ok(ClientAnswer::Value(value)) => {
@@ -239,6 +255,7 @@ impl<R: Wait + Files, I: LineSource + Drop, O: LineSink + Drop> Clients<R, I, O>
             }
             Ok(ClientAnswer::Unknown) => {
                 self.note_badly_answered_line(branch, NoteKind::Unknown, line, text, "");
+                self.note_call_that_may_be_late();
                 Err(CallFault::OutcomeUnknown)
             }
             Ok(ClientAnswer::NoValue) => {
@@ -270,7 +287,7 @@ impl<R: Wait + Files, I: LineSource + Drop, O: LineSink + Drop> Clients<R, I, O>
             self.note_badly_answered_line(branch, NoteKind::NotAsked, line, why, "");
             return Err(CallFault::Refused);
         }
-        let answer = self.ask_client_and_track_wait(&self.connections[place], branch, line);
+        let answer = self.ask_client_for_call(&self.connections[place], branch, line);
         let text = self.answer_or_noted_fault(branch, line, answer)?;
         let ty = self.results.get(call.op as usize);
         self.value_of_answer(branch, line, text.as_str(), ty)
@@ -306,7 +323,7 @@ impl<
         self.do_clients_burst()
     }
 
-    /// Resets through each client, and then has all of them burst.
+    /// Resets through each client, and then has all of them burst: see `burst_clients`.
     fn burst(&mut self, case: &BurstCase) -> Option<Items<BurstDrive>> {
         self.burst_clients(case)
     }

@@ -2,6 +2,7 @@
 ghost use Rattle.std.specs.Prelude.{◌≡◌, [], ◌∷◌, ◌++◌, true, IfErr, IfOk, IsTrue, OnOk, string_bytes};
 ghost use Rattle.std.specs.Io.KnownBytes.{Appends, Consumes};
 ghost use Rattle.pst_clients.specs.Losing.{IsExtra, IsGone, IsLineLoss, fault_of, is_gone};
+ghost use Rattle.pst_system.specs.declared.system.CallFault.TheVariants.{NoMemory};
 
 use crate::marks::{LAST_LINE, LineEnd, MARK, MarkedLine};
 use crate::source::{LineSink, LineSource};
@@ -11,9 +12,6 @@ use std::alloc::{AllocError, Global};
 use std::fs::OpenOptions;
 use std::io::Write;
 use std::rt::Files;
-
-/// The line that makes the launcher restart a client.
-const REVIVE: &str = "[\"revive\"]\n";
 
 /// The word by which the launcher writes the line that ends what a client has printed so far. A wait begins.
 const MARK_WORD: &[u8] = b"m\n";
@@ -30,18 +28,20 @@ const MOST_WAITS: u32 = 3;
 /// A client that reads lines and answers each with a line.
 #[derive(Drop)]
 pub struct Connection<I: LineSource, O: LineSink> {
-    alloc: Global,
+    pub(crate) alloc: Global,
     answers: I,
     calls: O,
-    state: ClientState,
+    pub(crate) state: ClientState,
     /// The name of the pipe of the answers, if they come from one.
     pipe: Option<String>,
     /// The pipe that tells the launcher of waits, if it has one.
-    waits_pipe: Option<O>,
+    pub(crate) waits_pipe: Option<O>,
     /// Whether a line was sent since the last reset was done.
     is_asked: bool,
     /// Whether it printed a line too many since then, so that its answers may be those of other lines.
     is_astray: bool,
+    /// Whether it may be started again in a run: its last call has an unknown outcome, or was answered before the client ended.
+    pub(crate) may_restart_in_run: bool,
     /// The answer to the last reset.
     reset_answer: Option<String>,
     /// After how many more resets with an unusual answer it is worth while to wait for another line.
@@ -62,6 +62,7 @@ impl<I: LineSource, O: LineSink> Connection<I, O> {
             waits_pipe: None,
             is_asked: false,
             is_astray: false,
+            may_restart_in_run: false,
             reset_answer: None,
             waits: MOST_WAITS,
         }
@@ -94,7 +95,7 @@ impl<I: LineSource, O: LineSink> Connection<I, O> {
     }
 
     /// Keeps in mind that the client gives no answer any more.
-    fn note_gone(&mut self, state: ClientState)
+    pub(crate) fn note_gone(&mut self, state: ClientState)
         requires { ∥ IsGone I.may_give I.may_fail O.may_break ∥₁ }
         ensures answers { self.new.answers ≡ self.old.answers }
         ensures calls { self.new.calls ≡ self.old.calls }
@@ -103,7 +104,7 @@ impl<I: LineSource, O: LineSink> Connection<I, O> {
     }
 
     /// Keeps in mind that the client printed a line too many.
-    fn note_extra_line(&mut self)
+    pub(crate) fn note_extra_line(&mut self)
         requires { ∥ IsExtra I.may_give I.may_run_ahead ∥₁ }
         ensures answers { self.new.answers ≡ self.old.answers }
         ensures calls { self.new.calls ≡ self.old.calls }
@@ -112,7 +113,7 @@ impl<I: LineSource, O: LineSink> Connection<I, O> {
     }
 
     /// Sends a line with its end.
-    fn send_client_line(&mut self, line: &[u8]) -> Result<(), LostAnswer>
+    pub(crate) fn send_client_line(&mut self, line: &[u8]) -> Result<(), LostAnswer>
         ensures sent { OnOk result (Appends (O.contents self.old.calls)
             (O.contents self.new.calls) line.now) }
         ensures same { self.new.answers ≡ self.old.answers }
@@ -129,7 +130,7 @@ impl<I: LineSource, O: LineSink> Connection<I, O> {
     }
 
     /// The next line without its end.
-    fn receive_line(&mut self) -> Result<Vec<u8>, LostAnswer>
+    pub(crate) fn receive_line(&mut self) -> Result<Vec<u8>, LostAnswer>
         ensures received { IfOk result (λ line. Consumes (I.remaining self.old.answers)
             (I.remaining self.new.answers) (line.items ++ 10 ∷ [])) }
         ensures same { self.new.calls ≡ self.old.calls }
@@ -151,14 +152,15 @@ impl<I: LineSource, O: LineSink> Connection<I, O> {
     }
 
     /// Keeps in mind what the end of a line says. Returns why such a line is no answer, if it says something.
-    fn note_end_of_line(&mut self, line: &[u8]) -> Result<(), LostAnswer>
+    pub(crate) fn note_end_of_line(&mut self, line: &[u8]) -> Result<(), LostAnswer>
         requires { I.may_give line.now }
         ensures answers { self.new.answers ≡ self.old.answers }
         ensures calls { self.new.calls ≡ self.old.calls }
         ensures lost { IfErr result (λ lost. IsLineLoss I.may_give I.may_fail I.may_run_ahead O.may_break
             (fault_of lost)) }
     {
-        match MarkedLine::of(line).end {
+        let marked = MarkedLine::of(line);
+        match marked.end {
             None => Ok(()),
             Some(LineEnd::Last | LineEnd::Started) => {
                 self.note_extra_line();
@@ -168,12 +170,16 @@ impl<I: LineSource, O: LineSink> Connection<I, O> {
                 self.note_gone(ClientState::Closed);
                 Err(LostAnswer::TooLate)
             }
-            Some(LineEnd::Ended(how)) => {
+            Some(LineEnd::Ended) => {
                 self.note_gone(ClientState::Ended);
-                match String::from_utf8_lossy(self.alloc, how) {
-                    Ok(how) => Err(LostAnswer::Ended(how)),
-                    Err(AllocError) => Err(LostAnswer::NoMemory),
-                }
+                let how = text_of_bytes(self.alloc, marked.how_it_ended())?;
+                Err(LostAnswer::Ended(how))
+            }
+            Some(LineEnd::EndedUnknown) => {
+                self.note_gone(ClientState::Ended);
+                self.may_restart_in_run = true;
+                let how = text_of_bytes(self.alloc, marked.how_it_ended())?;
+                Err(LostAnswer::EndedUnknown(how))
             }
         }
     }
@@ -280,20 +286,20 @@ impl<I: LineSource, O: LineSink> Connection<I, O> {
         let mut first = None;
         for _ in 0..u64::MAX {
             let line = self.receive_line()?;
-            let MarkedLine { text, end } = MarkedLine::of(line.as_slice());
-            if first.is_none() && (!text.is_empty() || end.is_none()) {
-                first = Some(first_text(self.alloc, text)?);
+            let marked = MarkedLine::of(line.as_slice());
+            if first.is_none() && marked.is_of_client() {
+                first = Some(text_of_bytes(self.alloc, marked.text)?);
                 if self.is_asked {
                     self.note_extra_line();
                 }
             }
-            match end {
+            match marked.end {
                 Some(LineEnd::Last) => break,
                 Some(LineEnd::GivenUp) => {
                     self.note_gone(ClientState::Closed);
                     break;
                 }
-                Some(LineEnd::Ended(_)) => self.note_gone(ClientState::Ended),
+                Some(LineEnd::Ended | LineEnd::EndedUnknown) => self.note_gone(ClientState::Ended),
                 None | Some(LineEnd::Started) => {}
             }
         }
@@ -348,48 +354,6 @@ impl<I: LineSource, O: LineSink> Connection<I, O> {
         self.is_astray = false;
         self.is_asked = false;
     }
-
-    /// Waits until the client is known to have ended, or the launcher ends the wait.
-    pub fn await_client_end(&mut self) {
-        for _ in 0..u64::MAX {
-            if self.state != ClientState::Open {
-                return;
-            }
-            if let Ok(line) = self.receive_line() {
-                match MarkedLine::of(line.as_slice()).end {
-                    Some(LineEnd::Ended(_)) => self.note_gone(ClientState::Ended),
-                    Some(LineEnd::GivenUp) => self.note_gone(ClientState::Closed),
-                    None | Some(LineEnd::Last | LineEnd::Started) => {}
-                }
-            }
-        }
-    }
-
-    /// Asks the launcher to start a client again that has ended.
-    pub fn ask_launcher_to_restart_ended_client(&mut self) {
-        if self.state == ClientState::Ended {
-            let _ = self.send_client_line(REVIVE.as_bytes());
-        }
-    }
-
-    /// Waits until a client that has ended runs again, or the launcher ends the wait. Drops the lines of the client, and of
-    /// processes that outlive it.
-    pub fn await_restart_of_ended_client(&mut self) {
-        for _ in 0..u64::MAX {
-            if self.state != ClientState::Ended {
-                return;
-            }
-            if let Ok(line) = self.receive_line() {
-                match MarkedLine::of(line.as_slice()).end {
-                    Some(LineEnd::Started | LineEnd::Ended(_)) => {
-                        self.state = ClientState::Open;
-                    }
-                    Some(LineEnd::GivenUp) => self.note_gone(ClientState::Closed),
-                    None | Some(LineEnd::Last) => {}
-                }
-            }
-        }
-    }
 }
 
 impl<I: LineSource, O: LineSink + Drop> Connection<I, O> {
@@ -401,9 +365,11 @@ impl<I: LineSource, O: LineSink + Drop> Connection<I, O> {
     }
 }
 
-/// The text of a line, with U+FFFD in the place of what is no UTF-8.
-fn first_text(alloc: Global, line: &[u8]) -> Result<String, LostAnswer> {
-    match String::from_utf8_lossy(alloc, line) {
+/// The text of bytes, with U+FFFD in the place of what is no UTF-8.
+pub(crate) fn text_of_bytes(alloc: Global, bytes: &[u8]) -> Result<String, LostAnswer>
+    ensures { IfErr result (λ lost. fault_of lost ≡ NoMemory) }
+{
+    match String::from_utf8_lossy(alloc, bytes) {
         Ok(text) => Ok(text),
         Err(AllocError) => Err(LostAnswer::NoMemory),
     }

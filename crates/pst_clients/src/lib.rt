@@ -6,13 +6,16 @@
 
 mod burst;
 mod bursting;
+mod calling;
 mod clients;
 mod connection;
 mod marks;
 mod notes;
 mod opening;
+mod options;
 mod protocol;
 mod resetting;
+mod restarts;
 mod source;
 mod states;
 mod waits;
@@ -21,6 +24,7 @@ pub use clients::Clients;
 pub use connection::Connection;
 pub use notes::{MOST_NOTES, Notes};
 pub use opening::{ClientFolder, open_clients};
+pub use options::ClientOptions;
 pub use protocol::{
     ClientAnswer, client_answer_of_line, client_call_line, result_types_of_operations,
 };

@@ -18,13 +18,15 @@ pub(crate) enum NoteKind {
     NotAnswered,
     Failed,
     Unknown,
+    EndedUnknown,
     NoValue,
     Misfit,
     MoreLines,
     Stray,
 }
 
-/// All kinds, in the order of their notes. Stray lines are kept with [`NoteKind::MoreLines`].
+/// The kinds with places of their own, in the order of their notes. Stray lines are kept with [`NoteKind::MoreLines`], and ends of
+/// unknown outcome with [`NoteKind::Unknown`].
 const KINDS: [NoteKind; 7] = [
     NoteKind::MoreLines,
     NoteKind::NotAsked,
@@ -42,6 +44,7 @@ impl NoteKind {
             NoteKind::NotAsked => "was not asked:",
             NoteKind::NotAnswered => "was not answered:",
             NoteKind::Failed | NoteKind::Unknown => "was answered with",
+            NoteKind::EndedUnknown => "has an unknown outcome:",
             NoteKind::NoValue => "was answered with something that is not a value:",
             NoteKind::Misfit => "was answered with another type:",
             NoteKind::MoreLines => "was answered with more than one line:",
@@ -104,6 +107,8 @@ pub struct Notes {
     failed_resets: AtomicU64,
     /// How many drives the bursts of the clients had.
     burst_drives: AtomicU64,
+    /// How many calls had an unknown outcome or ended their client.
+    calls_that_may_be_late: AtomicU64,
 }
 
 /// A client by the numbers of its worker and of its branch, both from 0.
@@ -212,6 +217,7 @@ impl Notes {
             waits: ClientWaits::new(alloc)?,
             failed_resets: AtomicU64::new(0),
             burst_drives: AtomicU64::new(0),
+            calls_that_may_be_late: AtomicU64::new(0),
         })
     }
 
@@ -245,12 +251,22 @@ impl Notes {
         self.failed_resets.store(0, Ordering::SeqCst);
     }
 
+    /// Whether a call had an unknown outcome or ended its client, so that it may take effect in a later run.
+    pub fn has_call_that_may_be_late(&self) -> bool {
+        self.calls_that_may_be_late.load(Ordering::SeqCst) > 0
+    }
+
+    /// Counts a call that had an unknown outcome or ended its client.
+    pub(crate) fn count_call_that_may_be_late(&self) {
+        self.calls_that_may_be_late.fetch_add(1, Ordering::SeqCst);
+    }
+
     fn notes_of_kind(&self, kind: NoteKind) -> &KeptNotes {
         match kind {
             NoteKind::NotAsked => &self.not_asked,
             NoteKind::NotAnswered => &self.not_answered,
             NoteKind::Failed => &self.failed,
-            NoteKind::Unknown => &self.unknown,
+            NoteKind::Unknown | NoteKind::EndedUnknown => &self.unknown,
             NoteKind::NoValue => &self.no_value,
             NoteKind::Misfit => &self.misfit,
             NoteKind::MoreLines | NoteKind::Stray => &self.lines_too_many,

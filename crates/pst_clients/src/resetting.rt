@@ -9,7 +9,9 @@ use crate::source::{LineSink, LineSource};
 use crate::states::{ClientState, LostAnswer};
 use crate::waits::ClientWaits;
 use pst_system::CallFault;
+use std::alloc::AllocError;
 use std::rt::Files;
+use std::sync::atomic::Ordering;
 use std::sync::{Mutex, Wait};
 use std::thread::Parker;
 use std::time::Duration;
@@ -66,6 +68,19 @@ fn await_client_ends<I: LineSource, O: LineSink>(
     }
 }
 
+/// Waits until a client that has ended runs again, or the launcher ends the wait.
+pub(crate) fn await_client_restart<I: LineSource, O: LineSink>(
+    connection: &mut Connection<I, O>,
+    waits: &ClientWaits,
+    client: ClientId,
+) {
+    waits.begin_wait_for_answer(client, REVIVE);
+    connection.begin_limited_wait();
+    connection.await_restart_of_ended_client();
+    connection.end_limited_wait();
+    waits.end_wait_for_client(client);
+}
+
 /// Waits until the clients run again that are known to have ended, or the launcher ends the wait.
 fn await_client_restarts<I: LineSource, O: LineSink>(
     connections: &mut [Mutex<Connection<I, O>>],
@@ -77,11 +92,7 @@ fn await_client_restarts<I: LineSource, O: LineSink>(
         let client = ClientId { worker, branch };
         let connection = connection.get_mut();
         if connection.state() == ClientState::Ended {
-            waits.begin_wait_for_answer(client, REVIVE);
-            connection.begin_limited_wait();
-            connection.await_restart_of_ended_client();
-            connection.end_limited_wait();
-            waits.end_wait_for_client(client);
+            await_client_restart(connection, waits, client);
         }
         branch = branch.saturating_add(1);
     }
@@ -127,6 +138,39 @@ impl<R: Wait + Files, I: LineSource + Drop, O: LineSink + Drop> Clients<R, I, O>
         );
     }
 
+    /// The fault of a reset whose line was lost for a reason that has the fault `fault` for a call.
+    fn fault_of_reset(&self, fault: CallFault) -> CallFault
+        requires { IsLineLoss I.may_give I.may_fail I.may_run_ahead O.may_break fault }
+        ensures { IsResetLoss I.may_give I.may_fail I.may_run_ahead O.may_break result }
+    {
+        match fault {
+            CallFault::NoMemory => CallFault::NoMemory,
+            CallFault::Refused => CallFault::Refused,
+            CallFault::OutcomeUnknown => CallFault::Refused,
+        }
+    }
+
+    /// Waits before a reset, if a call since the last one may take effect late and the options say how long.
+    fn wait_for_late_calls(&self) {
+        let may_be_late = self.has_call_that_may_be_late.load(Ordering::SeqCst);
+        self.has_call_that_may_be_late
+            .store(false, Ordering::SeqCst);
+        let milliseconds = self.options.settle_milliseconds;
+        if may_be_late && milliseconds > 0 {
+            Parker::new().park_timeout(&self.rt, Duration::from_millis(milliseconds));
+        }
+    }
+
+    /// The line of the reset with its number, if the options say that it has one.
+    fn numbered_reset_line(&self) -> Result<Option<String>, AllocError> {
+        if !self.options.numbers_runs {
+            return Ok(None);
+        }
+        let number = self.resets;
+        let line = format!(in self.alloc; "[\"reset\",{number}]\n")?;
+        Ok(Some(line))
+    }
+
     /// The line with which a branch's client answers a reset, which may only take a limited time, if the branch has a
     /// client.
     fn ask_for_reset(&self, branch: u32) -> Option<Result<String, LostAnswer>>
@@ -134,14 +178,21 @@ impl<R: Wait + Files, I: LineSource + Drop, O: LineSink + Drop> Clients<R, I, O>
             (λ lost. IsLineLoss I.may_give I.may_fail I.may_run_ahead O.may_break (fault_of lost))) }
     {
         let connection = self.connections.get(branch as usize)?;
+        let Ok(numbered) = self.numbered_reset_line() else {
+            return Some(Err(LostAnswer::NoMemory));
+        };
+        let line = match &numbered {
+            Some(line) => line.as_str(),
+            None => RESET,
+        };
         connection.lock(&self.rt).begin_limited_wait();
-        let answer = self.ask_client_and_track_wait(connection, branch, RESET.as_bytes());
+        let answer = self.ask_client_and_track_wait(connection, branch, line.as_bytes());
         connection.lock(&self.rt).end_limited_wait();
         Some(answer)
     }
 
     /// Notes a line that a branch's client printed and that answers nothing.
-    fn note_stray_line_of_client(&self, branch: u32, text: &str) {
+    pub(crate) fn note_stray_line_of_client(&self, branch: u32, text: &str) {
         let last = self
             .notes
             .waits()
@@ -234,7 +285,7 @@ impl<R: Wait + Files, I: LineSource + Drop, O: LineSink + Drop> Clients<R, I, O>
         ) {
             let fault = self.noted_fault(branch, RESET.as_bytes(), lost);
             let _ = self.drop_strays_and_tell_if_answers_doubtful(branch);
-            return Err(fault);
+            return Err(self.fault_of_reset(fault));
         }
         self.restart_ended_clients();
         Ok(())
@@ -251,7 +302,10 @@ impl<R: Wait + Files, I: LineSource + Drop, O: LineSink + Drop> Clients<R, I, O>
         ensures { IfErr result (λ f. IsResetLoss I.may_give I.may_fail I.may_run_ahead O.may_break f) }
     {
         let line = RESET.as_bytes();
-        let answer = self.answer_or_noted_fault(branch, line, answer)?;
+        let answer = match self.answer_or_noted_fault(branch, line, answer) {
+            Ok(answer) => answer,
+            Err(fault) => return Err(self.fault_of_reset(fault)),
+        };
         if answer.as_bytes().starts_with(b"failed") {
             self.note_badly_answered_line(branch, NoteKind::Failed, line, answer.as_str(), "");
             return Err(CallFault::Refused);
@@ -284,13 +338,15 @@ impl<R: Wait + Files, I: LineSource + Drop, O: LineSink + Drop> Clients<R, I, O>
         }
     }
 
-    /// Restarts clients that ended, and then resets through each client in turn. It fails if a client printed a
-    /// line too many since the last reset: what it answered since may be wrong.
+    /// Restarts clients that ended, and then resets through each client in turn, after calls that may be late. It fails if a
+    /// client printed a line too many since the last reset: what it answered since may be wrong.
     pub(crate) fn reset_clients(&mut self) -> Result<(), CallFault>
         ensures results { self.new.results ≡ self.old.results }
         ensures clients { length self.new.connections.items ≡ length self.old.connections.items }
         ensures lost { IfErr result (λ f. IsResetLoss I.may_give I.may_fail I.may_run_ahead O.may_break f) }
     {
+        self.resets = self.resets.saturating_add(1);
+        self.wait_for_late_calls();
         if self.drop_all_strays_and_tell_if_doubtful() {
             return Err(CallFault::Refused);
         }

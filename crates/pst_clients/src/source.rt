@@ -72,6 +72,7 @@ fn read_line_of_client<I: Read>(alloc: Global, reader: &mut I) -> Result<Vec<u8>
     ensures consumed { IfOk result (λ line. Consumes (I.remaining reader.old)
         (I.remaining reader.new) (line.items ++ 10 ∷ [])) }
     ensures short { IfOk result (λ line. IsShortLine line.items) }
+    ensures failed { IfErr result (λ lost. IsReadLoss ⊤ (fault_of lost)) }
 {
     let mut line = Vec::new(alloc);
     for _ in 0..=MAX_LINE {

@@ -9,6 +9,8 @@ use pst_system::CallFault;
 pub enum LostAnswer {
     /// The client has ended. The launcher says how.
     Ended(String),
+    /// The client has ended, and the launcher says that nobody knows whether the call took effect, and how it ended.
+    EndedUnknown(String),
     /// A pipe is closed, or the client ended before.
     Closed,
     /// The line is longer than `MAX_LINE`. No other is read.
@@ -32,6 +34,7 @@ impl LostAnswer {
     {
         match self {
             LostAnswer::NoMemory => CallFault::NoMemory,
+            LostAnswer::EndedUnknown(_) => CallFault::OutcomeUnknown,
             LostAnswer::Ended(_)
             | LostAnswer::Closed
             | LostAnswer::TooLong

@@ -1,5 +1,6 @@
 //! Why recorded runs are broken.
 
+use crate::items::TreeCursor;
 use crate::json_input::ItemInput;
 use pst_explain::breaking_call_sentence_of_run;
 use pst_judge::{Judged, Verdict};
@@ -7,7 +8,7 @@ use pst_model::Typed;
 use pst_rejudge::ItemResult;
 use pst_run_problems::{find_part_and_offset_of_command, parts_of_case_or_run};
 use pst_runs::read_runs;
-use pst_sexpr::{Form, Tree, node_of, read, word_of};
+use pst_sexpr::{Form, Tree, node_of, word_of};
 use pst_sources::{Notice, span_at_path_or_whole_input};
 use std::alloc::{AllocError, Global};
 use std::slice;
@@ -104,19 +105,18 @@ fn broken_item_sentence(
 const UNKNOWN_OUTCOME: &str =
     "hint: if nobody knows whether the call took effect, as after a timeout, its reply is `unknown` (in JSON `{\"unknown\":null}`)";
 
-/// The message on the first broken item, and how many others there are.
+/// The message on the first broken item, and how many others there are. Reads this item alone.
 fn first_broken_item_and_count_message(
     alloc: Global,
     typed: &Typed,
     input: &ItemInput<'_>,
-    trees: &[Tree],
     broken: &BrokenItems,
 ) -> Result<Option<String>, AllocError> {
     let item = broken.item;
-    let Some(tree) = trees.get(item) else {
+    let Some(tree) = TreeCursor::new(input.trees.bytes).read_tree(alloc, item) else {
         return Ok(None);
     };
-    let Some(sentence) = broken_item_sentence(alloc, typed, tree, broken.command)? else {
+    let Some(sentence) = broken_item_sentence(alloc, typed, &tree, broken.command)? else {
         return Ok(None);
     };
     let Ok(sentence) = std::str::from_utf8(sentence.as_slice()) else {
@@ -146,8 +146,7 @@ fn first_broken_item_and_count_message(
 /// Says why the first broken item is broken, and how many others are, for a person to read. Returns `None` if no item
 /// is broken, or if its reply cannot be said.
 ///
-/// `typed` is the model of the input, and `judged` are the judgements on all items in their order. If an item is
-/// broken, the function reads the trees of the input once more; it returns `None` if that fails.
+/// `typed` is the model of the input, and `judged` are the judgements on all items in their order.
 pub fn first_broken_run_and_count_message(
     alloc: Global,
     typed: &Typed,
@@ -158,29 +157,18 @@ pub fn first_broken_run_and_count_message(
     for (index, judged) in judged.iter().enumerate() {
         broken = count_item_if_broken(broken, index.saturating_add(1), judged);
     }
-    let Some(broken) = broken else {
-        return Ok(None);
-    };
-    match read(alloc, input.trees.bytes) {
-        Ok(trees) => first_broken_item_and_count_message(
-            alloc,
-            typed,
-            &input,
-            trees.as_slice(),
-            &broken,
-        ),
-        Err(_) => Ok(None),
+    match broken {
+        Some(broken) => first_broken_item_and_count_message(alloc, typed, &input, &broken),
+        None => Ok(None),
     }
 }
 
 /// Says why the first broken item is broken, and how many others are, for a person to read. Returns `None` if no item
-/// is broken, or if its reply cannot be said. `answers` are the answers to all items in their order, and `trees` are the
-/// trees of the input.
+/// is broken, or if its reply cannot be said. `answers` are the answers to all items in their order.
 pub fn first_broken_item_result_and_count_message(
     alloc: Global,
     typed: &Typed,
     input: ItemInput<'_>,
-    trees: &[Tree],
     answers: &[ItemResult],
 ) -> Result<Option<String>, AllocError> {
     let mut broken = None;
@@ -190,7 +178,7 @@ pub fn first_broken_item_result_and_count_message(
         }
     }
     match broken {
-        Some(broken) => first_broken_item_and_count_message(alloc, typed, &input, trees, &broken),
+        Some(broken) => first_broken_item_and_count_message(alloc, typed, &input, &broken),
         None => Ok(None),
     }
 }

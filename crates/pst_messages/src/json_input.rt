@@ -225,6 +225,33 @@ fn too_large_as_trees_notice(
     Ok(json_fault_notice(alloc, start, fault))
 }
 
+/// The errors on `trees`, the text with a tree in place of each JSON item, as errors on the input as it was read.
+pub(crate) fn notices_on_text_as_read(
+    alloc: Global,
+    typed: &Typed,
+    input: &Input<'_>,
+    trees: &[u8],
+    notices: Notices,
+) -> Result<Notices, AllocError> {
+    let Notices { all, more } = notices;
+    let mut notices = Notices {
+        all: Vec::new(alloc),
+        more,
+    };
+    let mut pair = JsonAndTreeLineStart::first();
+    for notice in all {
+        pair = pair.advance_to_line_at(input.bytes, trees, notice.span.start);
+        notices.all.push(json_fault_or_translated_notice(
+            alloc,
+            typed,
+            input.bytes,
+            pair,
+            notice,
+        )?)?;
+    }
+    Ok(notices)
+}
+
 /// The errors of an input with JSON items whose model is accepted.
 fn errors_of_json_and_tree_items(
     alloc: Global,
@@ -242,23 +269,8 @@ fn errors_of_json_and_tree_items(
         files: files.as_slice(),
         bytes: text.as_slice(),
     };
-    let Notices { all, more } = errors_of_input_without_json_items(alloc, &trees, scope)?;
-    let mut notices = Notices {
-        all: Vec::new(alloc),
-        more,
-    };
-    let mut pair = JsonAndTreeLineStart::first();
-    for notice in all {
-        pair = pair.advance_to_line_at(input.bytes, trees.bytes, notice.span.start);
-        notices.all.push(json_fault_or_translated_notice(
-            alloc,
-            typed,
-            input.bytes,
-            pair,
-            notice,
-        )?)?;
-    }
-    Ok(notices)
+    let notices = errors_of_input_without_json_items(alloc, &trees, scope)?;
+    notices_on_text_as_read(alloc, typed, input, trees.bytes, notices)
 }
 
 /// The errors of an input whose first JSON item is at `place`. If the model is refused, they are those of the text

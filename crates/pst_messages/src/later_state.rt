@@ -2,7 +2,7 @@
 
 use crate::warning::tree_number_of_model_item;
 use pst_case::Command;
-use pst_model::{Item, Op};
+use pst_model::{Item, Op, Typed};
 use pst_sexpr::{Form, Tree, node_of, tree_in};
 use pst_sources::{Span, State, scan_state_after_byte, span_at_path_or_whole_input};
 use pst_syntax_problems::{FormText, has_head};
@@ -182,7 +182,7 @@ pub fn model_beginning_after_call(
     alloc: Global,
     input: &[u8],
     command: &Command,
-) -> Result<Option<Vec<u8>>, AllocError> {
+) -> Result<Option<Typed>, AllocError> {
     let Ok(ModelFile { typed, trees }) = load(alloc, input)? else {
         return Ok(None);
     };
@@ -201,7 +201,7 @@ pub fn model_beginning_after_call(
         return Ok(None);
     };
     match load(alloc, text.as_slice())? {
-        Ok(_) => Ok(Some(text)),
+        Ok(file) => Ok(Some(file.typed)),
         Err(_) => Ok(None),
     }
 }

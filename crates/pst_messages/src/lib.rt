@@ -13,6 +13,7 @@ mod broken;
 mod bytes;
 mod faults;
 mod item_hints;
+mod items;
 mod json_fault;
 mod json_input;
 mod json_item;
@@ -22,6 +23,7 @@ mod message;
 mod missing_keys;
 mod missing_model;
 mod preconditions;
+mod refused_items;
 mod scripts;
 mod spelling;
 mod unclosed;
@@ -34,8 +36,11 @@ pub use broken::{first_broken_item_result_and_count_message, first_broken_run_an
 pub use faults::explanation_why_trial_has_no_case;
 pub use json_input::ItemInput;
 pub use later_state::model_beginning_after_call;
-pub use message::{MessageScope, input_error_messages_text, input_error_notices};
+pub use message::{
+    MessageScope, input_error_messages_text, input_error_notices, refused_model_messages_text,
+};
 pub use missing_model::has_model_at_start;
 pub use preconditions::{precondition_warnings_on_item_results, precondition_warnings_on_runs};
+pub use refused_items::{RefusedItems, refused_items_messages_text};
 pub use unknown_results::unknown_outcome_warning_notices;
 pub use warning::{input_warning_notices, input_warnings_text};

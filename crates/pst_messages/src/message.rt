@@ -1,17 +1,16 @@
 //! The messages on refused inputs.
 
 use crate::bytes::{ByteFault, byte_fault_of_sexpr_fault};
-use crate::item_hints::replace_notes_by_hint_if_misplaced;
+use crate::items::TreeCursor;
 use crate::json_input::errors_of_input_with_json_items;
 use crate::missing_model::model_form_problems_with_hints;
-use pst_input::find_json_items;
+use crate::refused_items::{RefusedItems, notices_on_refused_items};
+use pst_input::{InputText, find_json_items};
 use pst_model::Typed;
-use pst_run_problems::refused_case_or_run_problem;
 use pst_runs::{RunFault, read_runs};
 use pst_sexpr::{FaultKind, Form, SexprFault, Tree, read};
 use pst_sources::{
-    Input, Notice, Notices, SourceFile, Span, deepest_span_on_path_in_tree,
-    span_at_path_or_whole_input, text_of_notices_if_any, tree_at,
+    Input, Notice, Notices, SourceFile, Span, span_at_path_or_whole_input, text_of_notices_if_any,
 };
 use pst_syntax::read_model;
 use pst_syntax_problems::{MOST_PROBLEMS, Problem, with_call_or_assignment_hint_if_meant};
@@ -34,7 +33,7 @@ pub enum MessageScope {
 }
 
 /// The error on the bytes of `span` that `problem` describes.
-fn error_notice_of_problem(alloc: Global, span: Span, problem: Problem) -> Notice {
+pub fn error_notice_of_problem(alloc: Global, span: Span, problem: Problem) -> Notice {
     let Problem {
         path: _,
         what,
@@ -89,144 +88,67 @@ fn with_call_or_assignment_hints(
     Ok(hinted)
 }
 
+/// The problems of a model whose first ill-typed item has this number, from 1. Reads the model alone.
+fn problems_of_ill_typed_model(
+    alloc: Global,
+    input: &Input<'_>,
+    number: usize,
+) -> Result<Vec<Problem>, AllocError> {
+    let Some(tree) = TreeCursor::new(input.bytes).read_tree(alloc, 0) else {
+        return Ok(Vec::new(alloc));
+    };
+    match read_model(alloc, slice::from_ref(&tree)) {
+        Ok(model) => {
+            let problems = type_problems_from_item_on(alloc, model.source(), tree.form(), number)?;
+            with_call_or_assignment_hints(alloc, tree.form(), problems)
+        }
+        Err(_) => Ok(Vec::new(alloc)),
+    }
+}
+
 /// The problems of a model that was read as trees.
 fn problems_of_refused_model(
     alloc: Global,
     input: &Input<'_>,
     refusal: &Refusal,
 ) -> Result<Vec<Problem>, AllocError> {
-    let Ok(trees) = read(alloc, input.bytes) else {
-        return Ok(Vec::new(alloc));
-    };
     match refusal {
-        Refusal::NoModel(_) => model_form_problems_with_hints(alloc, input, trees.as_slice()),
-        Refusal::IllTyped(number) => match (read_model(alloc, trees.as_slice()), trees.first()) {
-            (Ok(model), Some(tree)) => {
-                let problems = type_problems_from_item_on(
-                    alloc,
-                    model.source(),
-                    tree.form(),
-                    *number,
-                )?;
-                with_call_or_assignment_hints(alloc, tree.form(), problems)
-            }
-            _ => Ok(Vec::new(alloc)),
+        Refusal::NoModel(_) => match read(alloc, input.bytes) {
+            Ok(trees) => model_form_problems_with_hints(alloc, input, trees.as_slice()),
+            Err(_) => Ok(Vec::new(alloc)),
         },
+        Refusal::IllTyped(number) => problems_of_ill_typed_model(alloc, input, *number),
         Refusal::Unread(_) => Ok(Vec::new(alloc)),
     }
 }
 
-/// The problem of the first refused item after a model.
-fn problem_of_first_refused_item(
+/// The first refused item after a model, if there is one.
+fn first_refused_item(
     alloc: Global,
     typed: &Typed,
     trees: &[Tree],
-) -> Result<Option<Problem>, AllocError> {
+) -> Result<RefusedItems, AllocError> {
     match read_runs(alloc, typed, trees_after_model(trees)) {
-        Ok(_) => Ok(None),
-        Err(fault) => match trees.get(fault.run) {
-            Some(tree) => refused_case_or_run_problem(alloc, typed.source(), tree.form(), fault),
-            None => Ok(None),
-        },
+        Ok(_) => Ok(RefusedItems::none(alloc)),
+        Err(fault) => RefusedItems::one(alloc, fault),
     }
 }
 
-/// The error on the first refused item after a model.
-fn notice_on_first_refused_item(
+/// The refused items after a model, of which the first `most` get messages.
+fn refused_items(
     alloc: Global,
-    input: &Input<'_>,
-    typed: &Typed,
-    trees: &[Tree],
-) -> Result<Notices, AllocError> {
-    let Some(problem) = problem_of_first_refused_item(alloc, typed, trees)? else {
-        return Ok(Notices::none(alloc));
-    };
-    let number = problem.path.first().copied().unwrap_or(0);
-    let notice = error_notice_at_tree(alloc, input, problem);
-    match trees.get(number) {
-        Some(tree) => Notices::one(
-            alloc,
-            replace_notes_by_hint_if_misplaced(alloc, input, tree, notice)?,
-        ),
-        None => Notices::one(alloc, notice),
-    }
-}
-
-/// The error on `problem`, which is a problem of the item at the span `item`.
-fn notice_on_problem_in_item(
-    alloc: Global,
-    input: &Input<'_>,
-    item: Span,
-    problem: Problem,
-) -> Notice {
-    let path = problem.path.get(1..).unwrap_or(&[]);
-    let span = deepest_span_on_path_in_tree(input.bytes, item, path);
-    error_notice_of_problem(alloc, span, problem)
-}
-
-/// Adds the line that counts the refused items without a message, if there are some.
-fn add_unshown_refusal_count_if_any(text: &mut String, more: usize) -> Result<(), AllocError> {
-    if more == 0 {
-        return Ok(());
-    }
-    let items = if more == 1 { "item is" } else { "items are" };
-    write!(
-        text,
-        "{more} more {items} refused: --all-messages shows each\n"
-    )
-}
-
-/// The error on the item at the span `item`, whose tree is refused with `fault`.
-fn notice_on_item_with_fault(
-    alloc: Global,
-    input: &Input<'_>,
-    typed: &Typed,
-    item: Span,
-    tree: &Tree,
-    fault: RunFault,
-) -> Result<Option<Notice>, AllocError> {
-    match refused_case_or_run_problem(alloc, typed.source(), tree.form(), fault)? {
-        Some(problem) => {
-            let notice = notice_on_problem_in_item(alloc, input, item, problem);
-            Ok(Some(replace_notes_by_hint_if_misplaced(alloc, input, tree, notice)?))
-        }
-        None => Ok(None),
-    }
-}
-
-/// The errors on the first `most` refused items after a model, and the number of further ones. Scans the input once.
-fn notices_on_refused_items(
-    alloc: Global,
-    input: &Input<'_>,
     typed: &Typed,
     trees: &[Tree],
     most: usize,
-) -> Result<Notices, AllocError> {
-    let mut notices = Notices::none(alloc);
-    let mut span = tree_at(input.bytes, 0);
-    let mut refused: usize = 0;
+) -> Result<RefusedItems, AllocError> {
+    let mut items = RefusedItems::none(alloc);
     for (index, tree) in trees_after_model(trees).iter().enumerate() {
-        if refused < most {
-            span = tree_at(input.bytes, span.end);
+        if let Err(fault) = read_runs(alloc, typed, slice::from_ref(tree)) {
+            let run = index.saturating_add(1);
+            items.add(RunFault { run, ..fault }, most)?;
         }
-        let Err(fault) = read_runs(alloc, typed, slice::from_ref(tree)) else {
-            continue;
-        };
-        if refused < most {
-            let fault = RunFault {
-                run: index.saturating_add(1),
-                ..fault
-            };
-            if let Some(notice) = notice_on_item_with_fault(
-                alloc, input, typed, span, tree, fault,
-            )? {
-                notices.all.push(notice)?;
-            }
-        }
-        refused = refused.saturating_add(1);
     }
-    add_unshown_refusal_count_if_any(&mut notices.more, refused.saturating_sub(most))?;
-    Ok(notices)
+    Ok(items)
 }
 
 /// The errors on the items after a well-typed model.
@@ -236,25 +158,14 @@ fn item_error_notices(
     file: &ModelFile,
     scope: MessageScope,
 ) -> Result<Notices, AllocError> {
-    let trees = file.trees.as_slice();
-    match scope {
-        MessageScope::Model => Ok(Notices::none(alloc)),
-        MessageScope::FirstItem => notice_on_first_refused_item(alloc, input, &file.typed, trees),
-        MessageScope::EachItem => notices_on_refused_items(
-            alloc,
-            input,
-            &file.typed,
-            trees,
-            MOST_PROBLEMS,
-        ),
-        MessageScope::AllItems => notices_on_refused_items(
-            alloc,
-            input,
-            &file.typed,
-            trees,
-            usize::MAX,
-        ),
-    }
+    let (typed, trees) = (&file.typed, file.trees.as_slice());
+    let items = match scope {
+        MessageScope::Model => return Ok(Notices::none(alloc)),
+        MessageScope::FirstItem => first_refused_item(alloc, typed, trees)?,
+        MessageScope::EachItem => refused_items(alloc, typed, trees, MOST_PROBLEMS)?,
+        MessageScope::AllItems => refused_items(alloc, typed, trees, usize::MAX)?,
+    };
+    notices_on_refused_items(alloc, input, typed, &items)
 }
 
 /// The hints on items that are too large for one input.
@@ -286,6 +197,46 @@ fn error_notice_of_unread_bytes(
     })
 }
 
+/// The errors of an input without JSON items that begins with no well-typed model.
+fn notices_on_refused_model(
+    alloc: Global,
+    input: &Input<'_>,
+    scope: MessageScope,
+    refusal: Refusal,
+) -> Result<Notices, AllocError> {
+    match refusal {
+        Refusal::Unread(refused) => {
+            Notices::one(
+                alloc,
+                error_notice_of_unread_bytes(alloc, input, scope, refused)?,
+            )
+        }
+        _ => {
+            let problems = problems_of_refused_model(alloc, input, &refusal)?;
+            notices_on_first_model_problems(alloc, input, problems)
+        }
+    }
+}
+
+/// The messages on an input that is refused with `refusal`, for a person to read: those of [`input_error_messages_text`]. An
+/// input without items as JSON is not loaded once more for them.
+pub fn refused_model_messages_text(
+    alloc: Global,
+    input: &InputText<'_>,
+    scope: MessageScope,
+    refusal: Refusal,
+) -> Result<Option<String>, AllocError> {
+    let read = Input {
+        files: input.files(),
+        bytes: input.bytes(),
+    };
+    let errors = match find_json_items(read.bytes) {
+        Some(place) => errors_of_input_with_json_items(alloc, &read, scope, place)?,
+        None => notices_on_refused_model(alloc, &read, scope, refusal)?,
+    };
+    text_of_notices_if_any(alloc, &read, &errors)
+}
+
 /// The errors of an input without JSON items.
 pub fn errors_of_input_without_json_items(
     alloc: Global,
@@ -294,16 +245,7 @@ pub fn errors_of_input_without_json_items(
 ) -> Result<Notices, AllocError> {
     match load(alloc, input.bytes)? {
         Ok(file) => item_error_notices(alloc, input, &file, scope),
-        Err(Refusal::Unread(refused)) => {
-            Notices::one(
-                alloc,
-                error_notice_of_unread_bytes(alloc, input, scope, refused)?,
-            )
-        }
-        Err(refusal) => {
-            let problems = problems_of_refused_model(alloc, input, &refusal)?;
-            notices_on_first_model_problems(alloc, input, problems)
-        }
+        Err(refusal) => notices_on_refused_model(alloc, input, scope, refusal),
     }
 }
 

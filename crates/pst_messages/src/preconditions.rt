@@ -2,6 +2,7 @@
 ghost use Rattle.std.specs.Prelude.{◌≡◌, All};
 ghost use Rattle.pst_runs.specs.Lawful.{AreLawful, IsLawful};
 
+use crate::items::TreeCursor;
 use crate::json_input::ItemInput;
 use crate::spelling::{LocatedCommand, locate_and_spell_command, shortened_value_text};
 use crate::untrue_precondition::{
@@ -15,7 +16,7 @@ use pst_judge::{Judged, Verdict};
 use pst_model::{Source, Typed};
 use pst_rejudge::ItemResult;
 use pst_runs::read_runs;
-use pst_sexpr::{Form, Tree, read};
+use pst_sexpr::{Form, Tree};
 use pst_value::Value;
 use std::alloc::{AllocError, Global};
 use std::slice;
@@ -38,15 +39,15 @@ struct FalsePreconditions {
     count: usize,
 }
 
-/// The warning on a command of item `item`, counted from 1, of the input.
+/// The warning on a command of item `item`, counted from 1, of the input. Reads this item alone.
 fn precondition_warning_or_empty(
     alloc: Global,
     subject: &WarningSubject<'_>,
-    trees: &[Tree],
+    trees: &mut TreeCursor<'_>,
     item: usize,
     failing: &FalsePreconditionCommand,
 ) -> Result<String, AllocError> {
-    let Some(tree) = trees.get(item) else {
+    let Some(tree) = trees.read_tree(alloc, item) else {
         return Ok(String::new(alloc));
     };
     match locate_and_spell_command(alloc, tree.form(), item, failing.command)? {
@@ -133,12 +134,12 @@ fn interleaving_of_explained_verdict(judged: &Judged) -> Option<&[usize]> {
 fn precondition_warnings_text(
     alloc: Global,
     subject: &WarningSubject<'_>,
-    trees: &[Tree],
     found: &FalsePreconditions,
 ) -> Result<Option<String>, AllocError> {
     let mut text = String::new(alloc);
+    let mut trees = TreeCursor::new(subject.input.trees.bytes);
     for (item, failing) in found.first.as_slice() {
-        let warning = precondition_warning_or_empty(alloc, subject, trees, *item, failing)?;
+        let warning = precondition_warning_or_empty(alloc, subject, &mut trees, *item, failing)?;
         text.push_str(warning.as_str())?;
     }
     if found.count > MOST {
@@ -288,8 +289,7 @@ fn empty_list_of_false_preconditions(alloc: Global) -> FalsePreconditions {
 /// and then the number of further ones.
 ///
 /// `typed` is the model of the input, `parts` are the items after it in one part or more, and `judged` are the
-/// judgements on them in their order. If there are warnings, the function reads the trees of the input once more; it
-/// returns `None` if that fails.
+/// judgements on them in their order. The function reads the items that have a warning once more.
 pub fn precondition_warnings_on_runs<C: Callbacks>(
     callbacks: &C,
     alloc: Global,
@@ -305,13 +305,7 @@ pub fn precondition_warnings_on_runs<C: Callbacks>(
     };
     let mut found = empty_list_of_false_preconditions(alloc);
     add_false_preconditions_of_parts(&mut found, callbacks, alloc, &subject, parts, judged)?;
-    if found.count == 0 {
-        return Ok(None);
-    }
-    match read(alloc, subject.input.trees.bytes) {
-        Ok(trees) => precondition_warnings_text(alloc, &subject, trees.as_slice(), &found),
-        Err(_) => Ok(None),
-    }
+    precondition_warnings_text(alloc, &subject, &found)
 }
 
 /// Warns as [`precondition_warnings_on_runs`] does, if some items of the input may be refused: on the items that were judged.
@@ -336,5 +330,5 @@ pub fn precondition_warnings_on_item_results<C: Callbacks>(
             &mut found, callbacks, alloc, typed, &subject, trees, item, answer,
         )?;
     }
-    precondition_warnings_text(alloc, &subject, trees, &found)
+    precondition_warnings_text(alloc, &subject, &found)
 }

@@ -82,6 +82,8 @@ pub enum FieldName {
     Lost,
     /// How many trials were not begun.
     Undrawn,
+    /// How many trials had calls of unknown outcome.
+    UnknownOutcomes,
     /// The numbers of the trials that were lost, each with its cause.
     Losses,
     /// The first trial that failed.
@@ -147,6 +149,7 @@ impl FieldName {
             FieldName::GenFault => "genfault",
             FieldName::Lost => "lost",
             FieldName::Undrawn => "undrawn",
+            FieldName::UnknownOutcomes => "unknown",
             FieldName::Losses => "losses",
             FieldName::Least => "least",
             FieldName::From => "from",

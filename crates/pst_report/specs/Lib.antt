@@ -8,6 +8,7 @@ pub mod Least
 pub mod Object
 pub mod Status
 pub mod Text
+pub mod UnknownOutcomes
 pub mod Written
 -- what the contracts within the crate cite
 pub mod Matching

@@ -1,5 +1,5 @@
 -- The first members of the object of a campaign: how it ended, its plan, and its counts.
-use Rattle.std.specs.Prelude.{ℕ, List, [], ◌∷◌, ◌++◌, codes}
+use Rattle.std.specs.Prelude.{ℕ, ◌==◌, if◌then◌else◌, List, [], ◌∷◌, ◌++◌, codes}
 use Rattle.pst_judge.specs.declared.by_order.CallOrder.{CallOrder}
 use Rattle.pst_judge.specs.declared.by_order.CallOrder.TheVariants.{Any, Time}
 use Rattle.pst_rejudge.specs.declared.field.Field.{Field}
@@ -8,6 +8,7 @@ use Rattle.pst_rejudge.specs.declared.field.FieldName.{FieldName}
 use Rattle.pst_rejudge.specs.declared.field.FieldName.TheVariants as name
 use Rattle.pst_ledger.specs.declared.entry.Entry.{Entry}
 use Rattle.pst_report.specs.Kinds.{count_of}
+use Rattle.pst_report.specs.UnknownOutcomes.{uncertain_count}
 use Rattle.pst_report.specs.declared.status.EntryKind.{EntryKind}
 use Rattle.pst_report.specs.declared.status.EntryKind.TheVariants as kind
 use Rattle.pst_report.specs.declared.status.CampaignStatus.{CampaignStatus}
@@ -52,8 +53,16 @@ missing_fields entries =
     count_field name.GenFault kind.GenFaulted entries ∷ count_field name.Lost kind.Lost entries
     ∷ count_field name.Undrawn kind.Undrawn entries ∷ []
 
+-- how many trials had calls of unknown outcome, if any had
+abbrev pub unknown_fields : List (Entry RecordView) → List Field
+unknown_fields entries =
+    if uncertain_count entries == 0 then [] else Number name.UnknownOutcomes (uncertain_count entries) ∷ []
+
+abbrev pub other_fields : List (Entry RecordView) → List Field
+other_fields entries = missing_fields entries ++ unknown_fields entries
+
 -- how it ended, the name of its model, its plan, and its counts
 abbrev pub report_fields : PlanView → CampaignStatus → List (Entry RecordView) → List Field
 report_fields p status entries =
     (Words name.Verdict (status_word status) ∷ Words name.Model p.model.name ∷ [])
-    ++ (case_fields p.settings ++ (drive_fields p.settings ++ (judged_fields entries ++ missing_fields entries)))
+    ++ (case_fields p.settings ++ (drive_fields p.settings ++ (judged_fields entries ++ other_fields entries)))

@@ -8,6 +8,7 @@ mod counts;
 mod failures;
 mod object;
 mod status;
+mod unknown_outcomes;
 mod writer;
 
 pub use failures::{
@@ -18,4 +19,5 @@ pub use object::{add_lost_trials_and_first_failure, campaign_report_fields_befor
 pub use status::{
     CampaignStatus, EntryKind, campaign_status, status_of_made_trials, status_of_stoppable_campaign,
 };
+pub use unknown_outcomes::{count_ended_trials, count_trials_with_unknown_outcomes};
 pub use writer::{ReportFault, report};

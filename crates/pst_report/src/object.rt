@@ -9,6 +9,7 @@ use crate::failures::first_failed_trial;
 use crate::status::{
     CampaignStatus, EntryKind, count_entries_of_kind, failing_run_before_shrinking,
 };
+use crate::unknown_outcomes::count_trials_with_unknown_outcomes;
 use pst_judge::CallOrder;
 use pst_ledger::{Closed, Entry};
 use pst_model::Typed;
@@ -113,6 +114,28 @@ fn add_counts_of_trials_without_run(
     add_trial_count_field(fields, FieldName::Undrawn, EntryKind::Undrawn, entries)
 }
 
+/// Adds how many trials had calls of unknown outcome, if any had.
+fn add_unknown_outcomes_field(
+    fields: &mut Vec<Field>,
+    entries: &[Entry<Record>],
+) -> Result<(), AllocError>
+    ensures { OnOk result (fields.new.items ≡ fields.old.items ++ spec.unknown_fields entries.now) }
+{
+    let count = count_trials_with_unknown_outcomes(entries);
+    if count == 0 {
+        return Ok(());
+    }
+    add_number_field(fields, FieldName::UnknownOutcomes, count as u64)
+}
+
+/// Adds the counts of the numbers for which there is no run, and of the trials with calls of unknown outcome.
+fn add_other_counts(fields: &mut Vec<Field>, entries: &[Entry<Record>]) -> Result<(), AllocError>
+    ensures { OnOk result (fields.new.items ≡ fields.old.items ++ spec.other_fields entries.now) }
+{
+    add_counts_of_trials_without_run(fields, entries)?;
+    add_unknown_outcomes_field(fields, entries)
+}
+
 /// The first members of the object of a campaign: how it ended, the name of its model, its plan, and how many
 /// trials ended in which way.
 ///
@@ -142,7 +165,7 @@ pub fn campaign_report_fields_before_losses(
     add_seed_trials_commands_branches_fields(&mut fields, plan.settings())?;
     add_drive_fields(alloc, &mut fields, plan.settings())?;
     add_passed_and_failed_counts(&mut fields, entries)?;
-    add_counts_of_trials_without_run(&mut fields, entries)?;
+    add_other_counts(&mut fields, entries)?;
     Ok(fields)
 }
 

@@ -102,8 +102,25 @@ fn burst_and_judge_case<D: Driver>(
     }
 }
 
-/// Drives a valid case, and judges what was recorded by the order of the plan's settings. If the system drives it many times
-/// by itself, the run that counts is judged.
+/// Has the system drive a valid case many times by itself. Returns the run that counts, if it is not explained.
+fn unexplained_run_of_burst<D: Driver>(
+    alloc: Global,
+    plan: &Plan,
+    driver: &D,
+    valid: &Valid,
+) -> Result<Option<JudgedRun>, AllocError>
+    requires model { valid.now.model ≡ plan.now.model }
+    ensures { IfOk result (λ found. IfSome found (IsJudgedRun (D.may_drive driver.now) plan.now.model
+        plan.now.settings.order valid.now.case)) }
+{
+    match burst_and_judge_case(alloc, plan, driver, valid)? {
+        Some(run) if !run.is_explained() => Ok(Some(run)),
+        _ => Ok(None),
+    }
+}
+
+/// Drives a valid case, and judges what was recorded by the order of the plan's settings. A system that drives cases many times
+/// by itself does so first, and a run of this burst that is not explained is returned in place of the drive.
 fn drive_and_judge_case_once<D: Driver>(
     alloc: Global,
     plan: &Plan,
@@ -116,7 +133,7 @@ fn drive_and_judge_case_once<D: Driver>(
     ensures fault { IfErr result (MayFail (D.may_fail driver.old)) }
     ensures keeps { D.keeps driver.old driver.new }
 {
-    if let Some(run) = burst_and_judge_case(alloc, plan, driver, valid)? {
+    if let Some(run) = unexplained_run_of_burst(alloc, plan, driver, valid)? {
         return Ok(run);
     }
     let history = match driver.drive(alloc, plan.typed(), valid) {

@@ -1,5 +1,6 @@
 //! The arguments of the commands.
 
+use crate::subcommands::client_options::add_client_options;
 use crate::terminal::{LEAST_WIDTH, MOST_WIDTH};
 use clap::builder::ValueParser;
 use clap::{Arg, ArgAction, ArgMatches, Command};
@@ -56,10 +57,11 @@ pub fn add_system_argument_and_client_options<'a>(
     alloc: Global,
     command: Command<'a>,
 ) -> Result<Command<'a>, AllocError> {
-    command
+    let command = command
         .arg(system_argument(alloc)?)?
         .arg(client_option(alloc))?
-        .arg(shared_client_option(alloc)?)
+        .arg(shared_client_option(alloc)?)?;
+    add_client_options(alloc, command)
 }
 
 /// The option of the launcher that says for how many branches of `run` a client is started.

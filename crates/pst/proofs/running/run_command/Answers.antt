@@ -2,7 +2,7 @@ use Rattle.pst.proofs.Endings.{stream_meant}
 use Rattle.pst.proofs.running.run_command.Goals as goal
 
 pub returns-in-OfInput : goal.returns-in-OfInput
-returns-in-OfInput g c = rw c.in-OfInput.is c.answer_input_command.ensures
+returns-in-OfInput g c = rw c.in-OfInput.is c.answer_with_progress.ensures
 
 pub returns-in-Judge : goal.returns-in-Judge
 returns-in-Judge g c = rw c.in-Judge.is c.judge_items_of_files.ensures

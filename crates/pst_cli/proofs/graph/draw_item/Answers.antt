@@ -7,5 +7,5 @@ pub returns : goal.returns
 returns g c =
     let IsSo : OutputOf = λ plain. IsGraphOutput c.args.order plain c.args.item in
     record {
-      prints = meant _ IsSo _ _ _ c.plain.ensures (reaches _ (IsSo c.plain.result.now) _ c.graph_answer.result c.graph_answer.ensures c.deliver.ensures);
+      prints = meant _ IsSo _ _ _ c.plain.ensures (reaches _ (IsSo c.plain.result.now) _ c.graph_answer-answer.result c.graph_answer-answer.ensures c.deliver.ensures);
     }

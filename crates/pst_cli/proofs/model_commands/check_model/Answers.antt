@@ -6,6 +6,6 @@ pub returns : goal.returns
 returns g c = record {
   prints =
       meant _ (check_answer c.args.form c.args.notices.now) _ _ _ c.plain.ensures
-      (reaches _ (check_answer c.args.form c.args.notices.now c.plain.result.now) _ c.check_answer.result c.check_answer.ensures
+      (reaches _ (check_answer c.args.form c.args.notices.now c.plain.result.now) _ c.check_answer-answer.result c.check_answer-answer.ensures
       (rw c.memory_text.ensures at c.deliver.ensures));
 }

@@ -6,5 +6,5 @@ pub returns : goal.returns
 returns g c = record {
   prints =
       meant _ (IsConvertOutput c.args.form) _ _ _ c.plain.ensures
-      (reaches _ (IsConvertOutput c.args.form c.plain.result.now) _ c.convert_answer.result c.convert_answer.ensures c.deliver.ensures);
+      (reaches _ (IsConvertOutput c.args.form c.plain.result.now) _ c.convert_answer-answer.result c.convert_answer-answer.ensures c.deliver.ensures);
 }

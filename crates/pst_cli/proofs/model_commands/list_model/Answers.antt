@@ -6,5 +6,5 @@ pub returns : goal.returns
 returns g c = record {
   prints =
       meant _ IsListOutput _ _ _ c.plain.ensures
-      (reaches _ (IsListOutput c.plain.result.now) _ c.list_answer.result c.list_answer.ensures c.deliver.ensures);
+      (reaches _ (IsListOutput c.plain.result.now) _ c.list_answer-answer.result c.list_answer-answer.ensures c.deliver.ensures);
 }

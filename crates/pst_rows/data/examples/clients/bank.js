@@ -50,7 +50,7 @@ function ask(line) {
       for await (const part of response) text += part;
       resolve(text);
     });
-    const timer = line === '["reset"]' ? undefined : setTimeout(() => { resolve("unknown timeout"); request.destroy(); }, LIMIT);
+    const timer = line.startsWith('["reset"') ? undefined : setTimeout(() => { resolve("unknown timeout"); request.destroy(); }, LIMIT);
     request.on("error", (error) => resolve(`unknown ${error.code}`)).on("close", () => clearTimeout(timer));
   });
 }

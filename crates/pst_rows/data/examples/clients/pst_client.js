@@ -68,7 +68,7 @@ class Branch {
       return this.burst(...words.slice(1));
     }
     const answer = await this.make(words);
-    return line === '["reset"]' && this.gate && isOutcome(answer) ? "burst" : answer;
+    return line.startsWith('["reset"') && this.gate && isOutcome(answer) ? "burst" : answer;
   }
 
   // Makes a call. Returns the line that answers it.
@@ -94,6 +94,7 @@ class Branch {
   async burst(burst, drives, ...parts) {
     if (!this.gate || burst < 1 || burst >= 2 ** 32 || drives < 1 || drives > 1000) return "failed: this burst cannot be made";
     const [number, calls, places, lists] = [BigInt(burst), JSON.stringify(parts), [], new Map()];
+    const limit = performance.now() + Number(process.env.PST_BURST_MILLISECONDS || Infinity);
     let size = 10;
     try {
       this.gate.set(this.number, number, 0n);
@@ -103,6 +104,7 @@ class Branch {
         if (size > 1000000) throw new BurstEnds();
         if (!lists.has(text)) lists.set(text, lists.size);
         places.push(lists.get(text));
+        if (this.number === 1 && performance.now() > limit) throw new BurstEnds();
       }
     } catch (error) {
       this.gate.set(this.number, number, ENDED);

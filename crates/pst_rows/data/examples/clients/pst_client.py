@@ -87,7 +87,7 @@ class Branch:
         if words[0] == "burst" and [type(word) for word in words[1:]] == [int, int, list, list, list]:
             return self.burst(*words[1:])
         answer = self.make(words)
-        return "burst" if words == ["reset"] and self.gate and not self.fails(answer) else answer
+        return "burst" if words[0] == "reset" and self.gate and not self.fails(answer) else answer
 
     def make(self, words):
         """Makes a call, and returns the line that answers it."""
@@ -118,6 +118,7 @@ class Branch:
         if not self.gate or not 1 <= drives <= 1000 or not 0 < burst < 2**32:
             return "failed: this burst cannot be made"
         calls, places, lists, size = json.dumps(parts), [], {}, 10
+        limit = time.monotonic() + float(os.environ.get("PST_BURST_MILLISECONDS", "inf")) / 1000
         try:
             self.gate.set(self.number, burst, 0)
             for at in range(drives):
@@ -128,6 +129,8 @@ class Branch:
                 if size > 1000000:
                     raise BurstEnds
                 places.append(lists.setdefault(text, len(lists)))
+                if self.number == 1 and time.monotonic() > limit:
+                    raise BurstEnds
         except BurstEnds:
             self.gate.set(self.number, burst, Gate.END)
         return f"[{','.join([json.dumps(places, separators=',:'), *lists])}]"

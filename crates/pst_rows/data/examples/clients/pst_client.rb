@@ -1,6 +1,7 @@
-# Tests an object whose methods several threads call at once.
+# Tests an object whose methods several threads call at once, or a system that several processes call.
 #
-# `Pst.check` is for the tests of minitest and others. `Pst.serve` makes a client for `pst campaign --shared --client`. Both make bursts (docs/clients.md).
+# `Pst.check` is for the tests of minitest and others. `Pst.serve` makes a client for `pst campaign --shared --client`, and `Pst.serve_branch` one for
+# `pst campaign --client`. All make bursts (docs/clients.md).
 require "json"
 require "open3"
 require "tmpdir"
@@ -10,6 +11,9 @@ module Pst
   def self.yields(&call)
     TracePoint.new(:line) { sleep 0.0001 if rand < 0.5 }.enable(target_thread: Thread.current, &call)
   end
+
+  # A call raises this if nobody knows whether it took effect, as after a timeout.
+  class Unknown < StandardError; end
 
   # The burst of a branch ends before the drive that it is in.
   class BurstEnds < StandardError; end
@@ -45,7 +49,38 @@ module Pst
     def now = Process.clock_gettime(Process::CLOCK_MONOTONIC)
   end
 
-  # A branch, which answers its lines. The block makes a call, and returns the line that answers it.
+  # The same for processes, which spin: words in a file that all map. The 8 bytes of a word are written, and read, at once.
+  class GateOfFile < Gate
+    def initialize(branches, path)
+      require "fiddle"
+      super(branches)
+      word, int = Fiddle::TYPE_VOIDP, Fiddle::TYPE_INT
+      map = Fiddle::Function.new(Fiddle::Handle::DEFAULT["mmap"], [word, word, int, int, int, word], word)
+      @words = File.open(path, "r+") { |file| map.call(nil, 4096, 3, 1, file.fileno, 0) } # to be read and written, shared
+      @yield = Fiddle::Function.new(Fiddle::Handle::DEFAULT["sched_yield"], [], int)
+    end
+
+    def set(branch, burst, step)
+      @words[64 * branch, 8] = [(burst << 32) + step].pack("Q<")
+    end
+
+    def get(branch) = @words[64 * branch, 8].unpack1("Q<")
+
+    def wait(branches, burst, step)
+      begun = now
+      branches.each do |branch|
+        while get(branch) < (burst << 32) + step
+          waited = now - begun
+          raise BurstEnds if waited > 2
+          next if waited < 0.00001
+          waited < 0.001 ? @yield.call : sleep(0.00005) # the other one may wait for this processor
+        end
+        raise BurstEnds if get(branch) >= (burst << 32) + ENDED
+      end
+    end
+  end
+
+  # A branch, which answers its lines. The block makes a call, and returns the line that answers it. Without a gate there are no bursts.
   class Branch
     def initialize(number, gate, &make)
       @number, @gate, @make = number, gate, make
@@ -56,7 +91,7 @@ module Pst
       words = JSON.parse(line)
       return burst(*words[1..]) if words.size == 6 && ["burst", Integer, Integer, Array, Array, Array].zip(words).all? { |kind, word| kind === word }
       answer = @make.call(words)
-      words == ["reset"] && outcome?(answer) ? "burst" : answer
+      words[0] == "reset" && @gate && outcome?(answer) ? "burst" : answer
     end
 
     private
@@ -66,8 +101,9 @@ module Pst
 
     # Makes the drives of a burst, and returns the line with the number of each one's answers, and each list of answers once.
     def burst(burst, drives, *parts)
-      return "failed: this burst cannot be made" unless drives.between?(1, 1000) && burst.between?(1, Gate::ENDED)
+      return "failed: this burst cannot be made" unless @gate && drives.between?(1, 1000) && burst.between?(1, Gate::ENDED)
       calls, places, lists, size = JSON.generate(parts), [], {}, 10
+      limit = Process.clock_gettime(Process::CLOCK_MONOTONIC) + Float(ENV.fetch("PST_BURST_MILLISECONDS", 1_000_000)) / 1000
       begin
         @gate.set(@number, burst, 0)
         drives.times do |at|
@@ -75,6 +111,7 @@ module Pst
           size += 5 + (lists.key?(list) ? 0 : list.bytesize + 1)
           raise BurstEnds if size > 1_000_000
           places << (lists[list] ||= lists.size)
+          raise BurstEnds if @number == 1 && Process.clock_gettime(Process::CLOCK_MONOTONIC) > limit
         end
       rescue BurstEnds
         @gate.set(@number, burst, Gate::ENDED)
@@ -114,11 +151,11 @@ module Pst
     end
   end
 
-  # Returns the line that answers a call of a system.
-  def self.answer_to(name, arguments, system)
-    JSON.generate(yields { system.public_send(name.tr("-", "_"), *arguments) })
+  # Returns the line that answers a call of a method of an object.
+  def self.answer_to(object, name, arguments)
+    JSON.generate(object.public_send(name.tr("-", "_"), *arguments))
   rescue StandardError => error
-    "failed: #{error.inspect}".tr("\n", " ")
+    "#{error.is_a?(Unknown) ? "unknown" : "failed"}: #{error.inspect}".tr("\n", " ")
   end
 
   # Answers the lines of all branches, and returns their threads. Each reset of branch 1 makes a new system.
@@ -127,7 +164,7 @@ module Pst
     (1..branches).map do |number|
       branch = Branch.new(number, gate) do |(name, *arguments)|
         system = make_system.call if name == "reset" && number == 1
-        name == "reset" ? "true" : answer_to(name, arguments, system)
+        name == "reset" ? "true" : yields { answer_to(system, name, arguments) }
       end
       Thread.new do
         calls, answers = File.open("#{pipes}-#{number}.calls"), File.open("#{pipes}-#{number}.answers", "w")
@@ -140,6 +177,14 @@ module Pst
   def self.serve(&make_system)
     abort "PST_PIPES is not set: run this client by pst campaign --client 'ruby #{$PROGRAM_NAME}' --shared" unless ENV["PST_PIPES"]
     start(ENV["PST_PIPES"], ENV["PST_BRANCHES"].to_i, make_system).each(&:join)
+  end
+
+  # Answers the calls of the branch of this process, by the methods of an object: one for each operation, and one for `reset`.
+  def self.serve_branch(calls)
+    gate = ENV["PST_GATE"] && GateOfFile.new(ENV["PST_BRANCHES"].to_i, ENV["PST_GATE"])
+    branch = Branch.new(ENV["PST_BRANCH"].to_i, gate) { |(name, *arguments)| answer_to(calls, name, arguments) }
+    $stdout.sync = true
+    $stdin.each_line { |line| $stdout.write("#{branch.answer(line)}\n") }
   end
 
   # Runs a campaign on systems of this process, and fails with the smallest run that the model cannot explain, if there is one.

@@ -1,4 +1,7 @@
+import java.io.BufferedReader;
 import java.io.IOException;
+import java.io.InputStreamReader;
+import java.nio.file.Path;
 import java.util.ArrayList;
 import java.util.List;
 import java.util.Map;
@@ -6,12 +9,22 @@ import java.util.TreeMap;
 import java.util.function.Supplier;
 
 /**
- * Tests an object that several threads use: check is for JUnit and other tests, serve for pst campaign --shared --client.
+ * Tests an object that several threads use, or a system that several processes use. check is for JUnit and other tests, serve for pst campaign --shared
+ * --client, and serveBranch for pst campaign --client. All make bursts (docs/clients.md).
  *
  * <p>makeSystem makes an object in the initial state of the model. It has a public method for each operation.
  */
 public final class Pst {
     private Pst() {}
+
+    /** A call throws this if nobody knows whether it took effect, as after a timeout. */
+    public static final class Unknown extends RuntimeException {
+        private static final long serialVersionUID = 1;
+
+        public Unknown(String why) {
+            super(why);
+        }
+    }
 
     /** Answers the calls of all branches on objects of this process. */
     public static void serve(Supplier<?> makeSystem) {
@@ -21,6 +34,14 @@ public final class Pst {
             System.exit(1);
         }
         new Branches(makeSystem).start(pipes, Integer.parseInt(System.getenv("PST_BRANCHES")), false);
+    }
+
+    /** Answers the calls of the branch of this process: calls has a public method for each operation, and one for reset. */
+    public static void serveBranch(Object calls) throws IOException {
+        String file = System.getenv("PST_GATE");
+        Bursts.Gate gate = file == null ? null : Bursts.Gate.ofFile(Integer.parseInt(System.getenv("PST_BRANCHES")), Path.of(file));
+        Bursts bursts = new Bursts(Integer.parseInt(System.getenv("PST_BRANCH")), gate, words -> Branches.call(calls, words));
+        Branches.answerLines(bursts, new BufferedReader(new InputStreamReader(System.in)), System.out);
     }
 
     /**

@@ -1,7 +1,7 @@
 //! Bursts: a case that is driven many times without a line between the calls. docs/clients.md has the rules.
 use crate::Json;
 use std::sync::atomic::{AtomicU64, Ordering::SeqCst};
-use std::{collections::HashMap, env, thread, time::Duration, time::Instant};
+use std::{collections::HashMap, env, fs::File, os::unix::io::AsRawFd, ptr, slice, thread, time::Duration, time::Instant};
 
 /// The step of a branch that has ended its burst.
 const ENDED: u64 = u32::MAX as u64;
@@ -12,20 +12,31 @@ struct BurstEnds;
 type Drive<T> = Result<T, BurstEnds>;
 
 #[derive(Default)]
-#[repr(align(64))]
-struct Word(AtomicU64);
+#[repr(C, align(64))]
+pub struct Word(AtomicU64);
 
 /// The words by which the branches of a worker wait for each other.
-pub struct Gate(Vec<Word>);
+#[derive(Clone, Copy)]
+pub struct Gate<'a>(pub &'a [Word]);
 
 extern "C" {
+    fn mmap(address: *mut Word, size: usize, rights: i32, flags: i32, file: i32, offset: i64) -> *mut Word;
     fn sched_getaffinity(thread: i32, size: usize, processors: *mut u64) -> i32;
     fn sched_setaffinity(thread: i32, size: usize, processors: *const u64) -> i32;
 }
 
-impl Gate {
-    pub fn new(branches: usize) -> Gate {
-        Gate((0..branches).map(|_| Word::default()).collect())
+impl Gate<'_> {
+    /// Returns the words of the file that `PST_GATE` names, if it can be mapped.
+    pub fn of_file(branches: usize) -> Option<Gate<'static>> {
+        let file = File::options().read(true).write(true).open(env::var_os("PST_GATE")?).ok()?;
+        file.metadata().ok().filter(|it| it.len() >= 4096)?;
+        // SAFETY: the first 4,096 bytes of the file are mapped to be read, written and shared (3 and 1), and stay so. All bytes are valid words.
+        let words = unsafe { mmap(ptr::null_mut(), 4096, 3, 1, file.as_raw_fd(), 0) };
+        if words as isize == -1 {
+            return None;
+        }
+        // SAFETY: as above. All processes access the words by atomics.
+        unsafe { slice::from_raw_parts(words, 64) }.get(1..=branches).map(Gate)
     }
 
     fn set(&self, branch: usize, burst: u64, step: u64) {
@@ -75,10 +86,10 @@ fn is_outcome(answer: &str) -> bool {
     !has_failed(answer) && !answer.starts_with("unknown")
 }
 
-/// A branch, which answers its lines. `make` makes a call, and returns the line that answers it.
+/// A branch, which answers its lines. `make` makes a call, and returns the line that answers it. Without a gate there are no bursts.
 pub struct Branch<'a, F: Fn(&[Json]) -> String> {
     pub number: usize,
-    pub gate: &'a Gate,
+    pub gate: Option<Gate<'a>>,
     pub make: F,
 }
 
@@ -90,10 +101,10 @@ impl<F: Fn(&[Json]) -> String> Branch<'_, F> {
                 if name == "burst" =>
             {
                 let is_possible = (1..=ENDED as i64).contains(burst) && (1..=1000).contains(drives);
-                let refusal = || "failed: this burst cannot be made".into();
-                is_possible.then(|| self.burst(*burst as u64, *drives as u64, [prefix, branch, suffix])).unwrap_or_else(refusal)
+                let make = |gate| self.burst(gate, *burst as u64, *drives as u64, [prefix, branch, suffix]);
+                self.gate.filter(|_| is_possible).map_or_else(|| "failed: this burst cannot be made".into(), make)
             }
-            [Json::Text(name)] if name == "reset" => {
+            [Json::Text(name), ..] if name == "reset" && self.gate.is_some() => {
                 Some((self.make)(words)).filter(|answer| !is_outcome(answer)).unwrap_or_else(|| "burst".into())
             }
             _ => (self.make)(words),
@@ -101,14 +112,16 @@ impl<F: Fn(&[Json]) -> String> Branch<'_, F> {
     }
 
     /// Makes the drives of a burst, and returns the line with the number of each one's answers, and each list of answers once.
-    fn burst(&self, burst: u64, drives: u64, parts: [&[Json]; 3]) -> String {
+    fn burst(&self, gate: Gate, burst: u64, drives: u64, parts: [&[Json]; 3]) -> String {
         let (mut numbers, mut places, mut lists) = (HashMap::new(), vec![], String::new());
-        self.gate.set(self.number, burst, 0);
+        let limit = env::var("PST_BURST_MILLISECONDS").ok().and_then(|it| it.parse().ok()).map(Duration::from_millis);
+        let began = Instant::now();
+        gate.set(self.number, burst, 0);
         for at in 0..drives {
             if at % 16 == 0 {
-                self.gate.part(self.number);
+                gate.part(self.number);
             }
-            let list = self.drive(burst, 3 * at, parts).map(|answers| {
+            let list = self.drive(gate, burst, 3 * at, parts).map(|answers| {
                 let texts: Vec<_> =
                     answers.into_iter().map(|answer| answer.map_or("null".into(), |it| format!("{:?}", Json::Text(it)))).collect();
                 format!(",[{}]", texts.join(","))
@@ -117,7 +130,7 @@ impl<F: Fn(&[Json]) -> String> Branch<'_, F> {
             let list = match list {
                 Ok(list) if is_room(&list) => list,
                 _ => {
-                    self.gate.set(self.number, burst, ENDED);
+                    gate.set(self.number, burst, ENDED);
                     break;
                 }
             };
@@ -127,6 +140,10 @@ impl<F: Fn(&[Json]) -> String> Branch<'_, F> {
                 lists += &list;
             }
             places.push(number.to_string());
+            if self.number == 1 && limit.is_some_and(|it| began.elapsed() > it) {
+                gate.set(self.number, burst, ENDED);
+                break;
+            }
         }
         format!("[[{}]{lists}]", places.join(","))
     }
@@ -143,26 +160,26 @@ impl<F: Fn(&[Json]) -> String> Branch<'_, F> {
     }
 
     /// Makes a drive: a reset after that of the branch before, the prefix, the branch at the same time as the others, the suffix.
-    fn drive(&self, burst: u64, step: u64, [prefix, branch, suffix]: [&[Json]; 3]) -> Drive<Vec<Option<String>>> {
-        let last = self.gate.0.len();
-        let wait_if_first = |step| if self.number == 1 { self.gate.wait(1, last, burst, step) } else { Ok(()) };
+    fn drive(&self, gate: Gate, burst: u64, step: u64, [prefix, branch, suffix]: [&[Json]; 3]) -> Drive<Vec<Option<String>>> {
+        let last = gate.0.len();
+        let wait_if_first = |step| if self.number == 1 { gate.wait(1, last, burst, step) } else { Ok(()) };
         wait_if_first(step)?;
         if self.number > 1 {
-            self.gate.wait(self.number - 1, self.number - 1, burst, step + 1)?;
+            gate.wait(self.number - 1, self.number - 1, burst, step + 1)?;
         }
         if !is_outcome(&(self.make)(&[Json::Text("reset".into())])) {
             return Err(BurstEnds);
         }
-        self.gate.set(self.number, burst, step + 1);
+        gate.set(self.number, burst, step + 1);
         wait_if_first(step + 1)?;
         let mut answers = self.make_all(prefix);
         if !answers.iter().all(|answer| answer.as_deref().map_or(false, is_outcome)) {
             return Err(BurstEnds);
         }
-        self.gate.set(self.number, burst, step + 2);
-        self.gate.wait(1, last, burst, step + 2)?;
+        gate.set(self.number, burst, step + 2);
+        gate.wait(1, last, burst, step + 2)?;
         let own = self.make_all(branch);
-        self.gate.set(self.number, burst, step + 3);
+        gate.set(self.number, burst, step + 3);
         wait_if_first(step + 3)?;
         let is_over = own.iter().flatten().any(|answer| has_failed(answer));
         answers.extend(own);
