@@ -248,7 +248,7 @@ impl<R: Wait + Files, I: LineSource + Drop, O: LineSink + Drop> Clients<R, I, O>
         }
     }
 
-    /// Has the clients drive a case so many times. `None` if one of them does not.
+    /// Has the clients drive a case `drives` times. `None` if one of them does not.
     fn drive_clients(&self, case: &BurstCase, drives: u32) -> Option<Items<BurstDrive>>
         ensures { IfSome result (AreDrives I.may_give self.now.results case.now
             (length self.now.connections.items) drives) }
